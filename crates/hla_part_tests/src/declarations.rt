@@ -1,13 +1,13 @@
-ghost use Rattle.std.specs.Prelude.{◌≡◌, IfOk};
+ghost use Rattle.std.specs.Prelude.{◌≡◌};
 ghost use Rattle.hla_declaration.specs.Declarations.{declarations_of};
 
 use crate::facts::check;
-use hla_base::{AttributeNo, ClassNo, Fault, FederateNo, List};
+use hla_base::{AttributeNo, ClassNo, FederateNo, List};
 use hla_catalogue::{Catalogue, Order};
 use hla_declaration::{Declarations, Receiver};
 use hla_fed_file::read;
 use std::alloc::Global;
-use std::test::Fail;
+use std::process::Abort;
 
 /// Object classes 1 to 3 and interaction classes 1 to 3, each below the one before.
 const FED: &[u8] = b"(FED
@@ -30,23 +30,23 @@ const FED: &[u8] = b"(FED
 ";
 
 /// Three federates, which declare nothing.
-fn three_federates(alloc: Global) -> Result<Declarations, Fault>
-    ensures federates { IfOk result (λ d. (declarations_of d).federates ≡ 3) }
-    ensures objects { IfOk result (λ d. (declarations_of d).object_classes ≡ 3) }
-    ensures interactions { IfOk result (λ d. (declarations_of d).interaction_classes ≡ 3) }
+fn three_federates(rt: &impl Abort, alloc: Global) -> Declarations
+    ensures federates { (declarations_of result).federates ≡ 3 }
+    ensures objects { (declarations_of result).object_classes ≡ 3 }
+    ensures interactions { (declarations_of result).interaction_classes ≡ 3 }
 {
     let mut declarations = Declarations::new(alloc, 3, 3);
-    declarations.admit()?;
-    declarations.admit()?;
-    declarations.admit()?;
-    Ok(declarations)
+    declarations.admit().expect(rt, "room");
+    declarations.admit().expect(rt, "room");
+    declarations.admit().expect(rt, "room");
+    declarations
 }
 
 /// A list of one attribute.
-fn one(alloc: Global, attribute: AttributeNo) -> Result<List<AttributeNo>, Fault> {
+fn one(rt: &impl Abort, alloc: Global, attribute: AttributeNo) -> List<AttributeNo> {
     let mut list = List::new(alloc);
-    list.push(attribute)?;
-    Ok(list)
+    list.push(attribute).expect(rt, "room");
+    list
 }
 
 /// Whether these federates receive, each at its class.
@@ -60,103 +60,126 @@ fn are_receivers(receivers: &[Receiver], expected: &[(FederateNo, ClassNo)]) -> 
 
 /// Whether an object of class 3 that federate 1 sends has these receivers, each at its class.
 fn is_object_received_by(
+    rt: &impl Abort,
     alloc: Global,
     catalogue: &Catalogue,
     declarations: &Declarations,
     expected: &[(FederateNo, ClassNo)],
-) -> Result<bool, Fault> {
-    let receivers = declarations.receivers_of_object_class(alloc, catalogue, 1, 3)?;
-    Ok(are_receivers(receivers.as_slice(), expected))
+) -> bool {
+    let receivers = declarations
+        .receivers_of_object_class(alloc, catalogue, 1, 3)
+        .expect(rt, "room");
+    are_receivers(receivers.as_slice(), expected)
 }
 
 /// Whether an interaction of class 3 that federate 1 sends has these receivers, each at its class.
 fn is_interaction_received_by(
+    rt: &impl Abort,
     alloc: Global,
     catalogue: &Catalogue,
     declarations: &Declarations,
     expected: &[(FederateNo, ClassNo)],
-) -> Result<bool, Fault> {
-    let receivers = declarations.receivers_of_interaction_class(alloc, catalogue, 1, 3)?;
-    Ok(are_receivers(receivers.as_slice(), expected))
+) -> bool {
+    let receivers = declarations
+        .receivers_of_interaction_class(alloc, catalogue, 1, 3)
+        .expect(rt, "room");
+    are_receivers(receivers.as_slice(), expected)
 }
 
-/// Federate 2 subscribes object classes 1 and 3, and federate 3 object class 2.
-fn subscribed(alloc: Global) -> Result<Declarations, Fault> {
-    let (root, pos, load) = (one(alloc, 1)?, one(alloc, 2)?, one(alloc, 3)?);
-    let mut declarations = three_federates(alloc)?;
-    declarations.subscribe_object_class_attributes(2, 1, root);
-    declarations.subscribe_object_class_attributes(2, 3, load);
-    declarations.subscribe_object_class_attributes(3, 2, pos);
-    Ok(declarations)
-}
-
-const SERVED: [&str; 4] = [
+/// What is so once federate 2 has subscribed object classes 1 and 3, and federate 3 object class 2.
+static SERVED: [&str; 4] = [
     "a federate is served at the class that it subscribed",
     "it is served at the most derived class that it subscribed",
     "one that subscribed nothing is not served",
     "those receive that subscribed, each at its class",
 ];
 
-/// What is so once federates 2 and 3 have subscribed.
 fn served(
+    rt: &impl Abort,
     alloc: Global,
     catalogue: &Catalogue,
     declarations: &Declarations,
-) -> Result<[bool; 4], Fault> {
-    Ok([
+) -> [bool; 4] {
+    let receivers = [(2, 3), (3, 2)];
+    [
         declarations.object_class_served(catalogue, 2, 3) == Some(3),
         declarations.object_class_served(catalogue, 2, 2) == Some(1),
         declarations.object_class_served(catalogue, 1, 3).is_none(),
-        is_object_received_by(alloc, catalogue, declarations, &[(2, 3), (3, 2)])?,
-    ])
-}
-
-/// Whether of a sender and another that both subscribed the other alone is a receiver.
-fn is_no_receiver(alloc: Global, catalogue: &Catalogue) -> Result<bool, Fault> {
-    let mut declarations = three_federates(alloc)?;
-    declarations.subscribe_interaction_class(1, 2);
-    declarations.subscribe_interaction_class(3, 1);
-    is_interaction_received_by(alloc, catalogue, &declarations, &[(3, 1)])
+        is_object_received_by(rt, alloc, catalogue, declarations, &receivers),
+    ]
 }
 
 #[test]
-fn receives_at_the_most_derived_class_what_others_send(rt: HostRuntime) -> Result<(), Fail> {
-    let catalogue = read(rt.alloc(), FED)?;
-    let declarations = subscribed(rt.alloc())?;
-    check(
-        &rt,
-        &SERVED,
-        &served(rt.alloc(), &catalogue, &declarations)?,
-    );
-    let is_no_receiver = is_no_receiver(rt.alloc(), &catalogue)?;
-    assert!(rt; is_no_receiver, "a sender is no receiver");
-    Ok(())
+fn receives_at_the_most_derived_class_what_others_send(rt: HostRuntime) {
+    let catalogue = read(rt.alloc(), FED).expect(&rt, "a catalogue");
+    let mut declarations = three_federates(&rt, rt.alloc());
+    let root = one(&rt, rt.alloc(), 1);
+    declarations.subscribe_object_class_attributes(2, 1, root);
+    let load = one(&rt, rt.alloc(), 3);
+    declarations.subscribe_object_class_attributes(2, 3, load);
+    let pos = one(&rt, rt.alloc(), 2);
+    declarations.subscribe_object_class_attributes(3, 2, pos);
+    let facts = served(&rt, rt.alloc(), &catalogue, &declarations);
+    drop(declarations);
+    drop(catalogue);
+    check(&rt, &SERVED, &facts);
 }
 
-const WITHDRAWN: [&str; 5] = [
-    "a federate publishes what it declared",
-    "it publishes nothing once it is withdrawn",
+/// Of a sender and another that both subscribed the other alone is a receiver.
+#[test]
+fn a_sender_is_no_receiver(rt: HostRuntime) {
+    let catalogue = read(rt.alloc(), FED).expect(&rt, "a catalogue");
+    let mut declarations = three_federates(&rt, rt.alloc());
+    declarations.subscribe_interaction_class(1, 2);
+    declarations.subscribe_interaction_class(3, 1);
+    let is_so = is_interaction_received_by(&rt, rt.alloc(), &catalogue, &declarations, &[(3, 1)]);
+    drop(declarations);
+    drop(catalogue);
+    assert!(rt; is_so, "a sender is no receiver");
+}
+
+/// What is so of federate 2, which declared object class 2 and interaction class 2, once it is withdrawn.
+static WITHDRAWN: [&str; 4] = [
+    "it publishes nothing",
     "the federates are as many as before",
-    "it receives no object then",
-    "it receives no interaction then",
+    "it receives no object",
+    "it receives no interaction",
 ];
 
-/// What is so of federate 2, which declares object class 2 and interaction class 2 and is withdrawn.
-fn withdrawn(alloc: Global, catalogue: &Catalogue) -> Result<[bool; 5], Fault> {
-    let (published, subscribed) = (one(alloc, 2)?, one(alloc, 2)?);
-    let mut declarations = three_federates(alloc)?;
+fn withdrawn(
+    rt: &impl Abort,
+    alloc: Global,
+    catalogue: &Catalogue,
+    declarations: &Declarations,
+) -> [bool; 4] {
+    [
+        !declarations.publishes_object_class(2, 2),
+        declarations.federates() == 3,
+        is_object_received_by(rt, alloc, catalogue, declarations, &[]),
+        is_interaction_received_by(rt, alloc, catalogue, declarations, &[]),
+    ]
+}
+
+#[test]
+fn declares_until_it_is_withdrawn(rt: HostRuntime) {
+    let catalogue = read(rt.alloc(), FED).expect(&rt, "a catalogue");
+    let mut declarations = three_federates(&rt, rt.alloc());
+    let published = one(&rt, rt.alloc(), 2);
     declarations.publish_object_class(2, 2, published);
+    let subscribed = one(&rt, rt.alloc(), 2);
     declarations.subscribe_object_class_attributes(2, 2, subscribed);
     declarations.subscribe_interaction_class(2, 2);
     let publishes = declarations.publishes_attribute(2, 2, 2);
     declarations.withdraw(2);
-    Ok([
-        publishes,
-        !declarations.publishes_object_class(2, 2),
-        declarations.federates() == 3,
-        is_object_received_by(alloc, catalogue, &declarations, &[])?,
-        is_interaction_received_by(alloc, catalogue, &declarations, &[])?,
-    ])
+    let facts = withdrawn(&rt, rt.alloc(), &catalogue, &declarations);
+    drop(declarations);
+    drop(catalogue);
+    check(
+        &rt,
+        &["a federate publishes what it declared"],
+        &[publishes],
+    );
+    check(&rt, &WITHDRAWN, &facts);
 }
 
 /// The orders of federate 2's interactions of classes 2 and 3, and of federate 3's of class 2, where they were changed.
@@ -168,24 +191,30 @@ fn orders(declarations: &Declarations) -> [Option<Order>; 3] {
     ]
 }
 
-const ORDERS: [&str; 3] = [
-    "an order is changed twice",
-    "an order is that of one federate and class",
+/// What is so of federate 2, which changes the order of its interactions of class 2 twice.
+static ORDERS: [&str; 2] = [
+    "an order, changed twice, is that of one federate and class",
     "it is so until the federate is withdrawn",
 ];
 
-/// What is so of federate 2, which changes the order of its interactions of class 2 twice.
-fn changed(alloc: Global) -> Result<[bool; 3], Fault> {
-    let mut declarations = three_federates(alloc)?;
-    let first = declarations.change_interaction_order(2, 2, Order::Receive);
-    let second = declarations.change_interaction_order(2, 2, Order::Timestamp);
+#[test]
+fn changes_an_order_until_it_is_withdrawn(rt: HostRuntime) {
+    let mut declarations = three_federates(&rt, rt.alloc());
+    declarations
+        .change_interaction_order(2, 2, Order::Receive)
+        .expect(&rt, "a change");
+    declarations
+        .change_interaction_order(2, 2, Order::Timestamp)
+        .expect(&rt, "a second change");
     let changed = orders(&declarations);
     declarations.withdraw(2);
-    Ok([
-        first.is_ok() && second.is_ok(),
+    let left = orders(&declarations);
+    drop(declarations);
+    let facts = [
         changed == [Some(Order::Timestamp), None, None],
-        orders(&declarations) == [None, None, None],
-    ])
+        left == [None, None, None],
+    ];
+    check(&rt, &ORDERS, &facts);
 }
 
 /// Whether federate 1 publishes and subscribes object class 3, and then interaction class 3.
@@ -198,47 +227,43 @@ fn declared_at_three(declarations: &Declarations) -> [bool; 4] {
     ]
 }
 
-const DECLARED: [&str; 6] = [
+/// What is so of federate 1, which publishes and subscribes object class 3 and interaction class 3.
+static DECLARED: [&str; 5] = [
     "a federate publishes the attributes that it declared",
     "it subscribes the attribute that it declared",
     "it publishes nothing of no class",
     "no federate publishes nothing",
     "it publishes and subscribes both classes",
-    "it publishes and subscribes neither once it has taken that back",
 ];
 
-/// What is so of federate 1, which publishes and subscribes object class 3 and interaction class 3, and takes that back.
-fn declared(alloc: Global) -> Result<[bool; 6], Fault> {
-    let (published, subscribed) = (one(alloc, 3)?, one(alloc, 3)?);
-    let mut declarations = three_federates(alloc)?;
+fn declared(declarations: &Declarations) -> [bool; 5] {
+    [
+        declarations.published_attributes(1, 3) == [3].as_slice(),
+        declarations.subscribes_attribute(1, 3, 3),
+        !declarations.publishes_object_class(1, 0),
+        !declarations.publishes_object_class(0, 3),
+        declared_at_three(declarations) == [true; 4],
+    ]
+}
+
+#[test]
+fn declares_until_it_takes_back(rt: HostRuntime) {
+    let mut declarations = three_federates(&rt, rt.alloc());
+    let published = one(&rt, rt.alloc(), 3);
     declarations.publish_object_class(1, 3, published);
     declarations.publish_interaction_class(1, 3);
+    let subscribed = one(&rt, rt.alloc(), 3);
     declarations.subscribe_object_class_attributes(1, 3, subscribed);
     declarations.subscribe_interaction_class(1, 3);
-    let publishes = declarations.published_attributes(1, 3) == [3].as_slice();
-    let subscribes = declarations.subscribes_attribute(1, 3, 3);
-    let of_no_class = declarations.publishes_object_class(1, 0);
-    let of_nobody = declarations.publishes_object_class(0, 3);
-    let before = declared_at_three(&declarations);
+    check(&rt, &DECLARED, &declared(&declarations));
     declarations.unpublish_object_class(1, 3);
     declarations.unpublish_interaction_class(1, 3);
     declarations.unsubscribe_object_class(1, 3);
     declarations.unsubscribe_interaction_class(1, 3);
-    Ok([
-        publishes,
-        subscribes,
-        !of_no_class,
-        !of_nobody,
-        before == [true; 4],
-        declared_at_three(&declarations) == [false; 4],
-    ])
-}
-
-#[test]
-fn declares_until_it_takes_back_or_is_withdrawn(rt: HostRuntime) -> Result<(), Fail> {
-    let catalogue = read(rt.alloc(), FED)?;
-    check(&rt, &WITHDRAWN, &withdrawn(rt.alloc(), &catalogue)?);
-    check(&rt, &ORDERS, &changed(rt.alloc())?);
-    check(&rt, &DECLARED, &declared(rt.alloc())?);
-    Ok(())
+    let left = declared_at_three(&declarations);
+    drop(declarations);
+    assert!(rt;
+        left == [false; 4],
+        "it declares neither class once it has taken that back"
+    );
 }

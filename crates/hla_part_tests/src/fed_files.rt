@@ -3,10 +3,11 @@ use crate::facts::check;
 use hla_base::Plain;
 use hla_catalogue::{Catalogue, Order, Transport};
 use hla_fed_file::{FedFault, FedFaultKind, read};
-use std::alloc::{AllocError, Global};
-use std::test::Fail;
+use std::alloc::Global;
+use std::process::Abort;
 
-const CATALOGUE: [&str; 17] = [
+/// What is so of the catalogue of `FED`.
+static CATALOGUE: [&str; 14] = [
     "an object class is found by its whole name",
     "it is found by its last name",
     "it is not found by the end of that",
@@ -21,17 +22,10 @@ const CATALOGUE: [&str; 17] = [
     "a class has the privilege to delete",
     "an attribute has its order",
     "an interaction class has its order",
-    "a copy is the same",
-    "the same text is read as the same",
-    "another text is not",
 ];
 
-/// What is so of the catalogue of `FED`.
-fn catalogue(alloc: Global, catalogue: &Catalogue) -> Result<[bool; 17], Fail> {
-    let copy = catalogue.copy()?;
-    let again = read(alloc, FED.as_bytes())?;
-    let other = read(alloc, b"(FED)")?;
-    Ok([
+fn catalogue(catalogue: &Catalogue) -> [bool; 14] {
+    [
         catalogue.object_class(b"ObjectRoot.Car") == Some(2),
         catalogue.object_class(b"Car") == Some(2),
         catalogue.object_class(b"ar").is_none(),
@@ -46,10 +40,30 @@ fn catalogue(alloc: Global, catalogue: &Catalogue) -> Result<[bool; 17], Fail> {
         catalogue.deletion_privilege(2) == Some(1),
         catalogue.attribute_order(3) == Order::Receive,
         catalogue.interaction_order(4) == Order::Timestamp,
-        copy.is_same(catalogue),
-        again.is_same(catalogue),
-        !other.is_same(catalogue),
-    ])
+    ]
+}
+
+/// What is so of the catalogue of `FED` beside others.
+static COMPARED: [&str; 3] = [
+    "a copy is the same",
+    "the same text is read as the same",
+    "another text is not",
+];
+
+#[test]
+fn compares_catalogues(rt: HostRuntime) {
+    let catalogue = read(rt.alloc(), FED.as_bytes()).expect(&rt, "a catalogue");
+    let copy = catalogue.copy().expect(&rt, "a copy");
+    let is_copied = copy.is_same(&catalogue);
+    drop(copy);
+    let again = read(rt.alloc(), FED.as_bytes()).expect(&rt, "the catalogue again");
+    let is_read = again.is_same(&catalogue);
+    drop(again);
+    let other = read(rt.alloc(), b"(FED)").expect(&rt, "another catalogue");
+    let is_other = other.is_same(&catalogue);
+    drop(other);
+    drop(catalogue);
+    check(&rt, &COMPARED, &[is_copied, is_read, !is_other]);
 }
 
 /// A FED file in letters of both cases, with a comment.
@@ -58,7 +72,8 @@ const ANY_CASE: &[u8] = b"(fed (FEDERATION \"My Fed\") (FedVersion v1.3) ; note
 (Interactions (class I (parameter p))))
 ";
 
-const OF_ANY_CASE: [&str; 5] = [
+/// What is so of the catalogue of `ANY_CASE`.
+static OF_ANY_CASE: [&str; 5] = [
     "a class has its name",
     "an attribute has its order",
     "the first of three attributes is sent by best effort",
@@ -66,7 +81,6 @@ const OF_ANY_CASE: [&str; 5] = [
     "it has its parameter",
 ];
 
-/// What is so of the catalogue of `ANY_CASE`.
 fn of_any_case(catalogue: &Catalogue) -> [bool; 5] {
     [
         catalogue.object_path(1) == b"Root X".as_slice(),
@@ -81,7 +95,8 @@ fn of_any_case(catalogue: &Catalogue) -> [bool; 5] {
 const INHERITING: &[u8] =
     b"(FED (objects (class a (attribute x) (class b (attribute x) (attribute y) (attribute y)) (attribute y) (class b))))";
 
-const INHERITED: [&str; 7] = [
+/// What is so of the catalogue of `INHERITING`.
+static INHERITED: [&str; 7] = [
     "an attribute that is named twice is declared once",
     "a class inherits what stands before it",
     "it declares what stands behind it, too",
@@ -91,7 +106,6 @@ const INHERITED: [&str; 7] = [
     "but not what was declared in the first",
 ];
 
-/// What is so of the catalogue of `INHERITING`.
 fn inherited(catalogue: &Catalogue) -> [bool; 7] {
     [
         catalogue.attributes().len() == 3,
@@ -105,16 +119,16 @@ fn inherited(catalogue: &Catalogue) -> [bool; 7] {
 }
 
 #[test]
-fn reads_catalogues(rt: HostRuntime) -> Result<(), Fail> {
-    let fed = read(rt.alloc(), FED.as_bytes())?;
-    check(&rt, &CATALOGUE, &catalogue(rt.alloc(), &fed)?);
-    check(
-        &rt,
-        &OF_ANY_CASE,
-        &of_any_case(&read(rt.alloc(), ANY_CASE)?),
-    );
-    check(&rt, &INHERITED, &inherited(&read(rt.alloc(), INHERITING)?));
-    Ok(())
+fn reads_catalogues(rt: HostRuntime) {
+    let fed = read(rt.alloc(), FED.as_bytes()).expect(&rt, "a catalogue");
+    check(&rt, &CATALOGUE, &catalogue(&fed));
+    drop(fed);
+    let fed = read(rt.alloc(), ANY_CASE).expect(&rt, "a catalogue in any case");
+    check(&rt, &OF_ANY_CASE, &of_any_case(&fed));
+    drop(fed);
+    let fed = read(rt.alloc(), INHERITING).expect(&rt, "a class in two places");
+    check(&rt, &INHERITED, &inherited(&fed));
+    drop(fed);
 }
 
 /// What `fault_of` says of a text that is read.
@@ -129,7 +143,7 @@ fn fault_of(alloc: Global, text: &[u8]) -> (usize, FedFaultKind) {
 }
 
 /// Texts, and the line and the kind of the fault of each.
-const FAULTS: [(&[u8], usize, FedFaultKind); 46] = [
+static FAULTS: [(&[u8], usize, FedFaultKind); 46] = [
     (b"(FED\n(objects\n(class Ob", 3, FedFaultKind::UnexpectedEnd),
     (b"", 1, FedFaultKind::UnexpectedEnd),
     (b"(FED) \"a", 1, FedFaultKind::UnexpectedEnd),
@@ -276,7 +290,7 @@ const FAULTS: [(&[u8], usize, FedFaultKind); 46] = [
 
 #[test]
 fn finds_faults(rt: HostRuntime) {
-    for (text, line, kind) in FAULTS.iter() {
+    for (text, line, kind) in &FAULTS {
         assert!(rt; fault_of(rt.alloc(), text) == (*line, *kind), "{text:?}");
     }
 }
@@ -301,7 +315,7 @@ const EIGHT_ATTRIBUTES: &[u8] =
 const EIGHT_PARAMETERS: &[u8] =
     b"(class c (parameter a)(parameter b)(parameter c)(parameter d)(parameter e)(parameter f)(parameter g)(parameter h))";
 
-const LIMITS: [Limit; 11] = [
+static LIMITS: [Limit; 11] = [
     Limit {
         head: b"(FED)",
         item: b" ",
@@ -405,26 +419,29 @@ const LIMITS: [Limit; 11] = [
 
 impl Limit {
     /// A text of so many times the item behind a head.
-    fn text(&self, alloc: Global, head: &[u8], count: usize) -> Result<Vec<u8>, AllocError> {
-        let mut text = Vec::from_slice(alloc, head)?;
+    fn text(&self, rt: &impl Abort, alloc: Global, head: &[u8], count: usize) -> Vec<u8> {
+        let mut text = Vec::from_slice(alloc, head).expect(rt, "room");
         for _ in 0..count {
-            text.extend_from_slice(self.item)?;
+            text.extend_from_slice(self.item).expect(rt, "room");
         }
-        text.extend_from_slice(self.tail)?;
-        Ok(text)
+        text.extend_from_slice(self.tail).expect(rt, "room");
+        text
     }
 
     /// How many attributes and parameters such a text declares, or its fault.
     fn reading(
         &self,
+        rt: &impl Abort,
         alloc: Global,
         head: &[u8],
         count: usize,
-    ) -> Result<Result<(usize, usize), FedFault>, AllocError> {
-        let text = self.text(alloc, head, count)?;
-        match read(alloc, text.as_slice()) {
-            Ok(catalogue) => Ok(Ok((catalogue.attributes().len(), catalogue.parameters().len()))),
-            Err(fault) => Ok(Err(fault)),
+    ) -> Result<(usize, usize), FedFault> {
+        let text = self.text(rt, alloc, head, count);
+        let read = read(alloc, text.as_slice());
+        drop(text);
+        match read {
+            Ok(catalogue) => Ok((catalogue.attributes().len(), catalogue.parameters().len())),
+            Err(fault) => Err(fault),
         }
     }
 }
@@ -435,15 +452,14 @@ const TOO_LARGE: FedFault = FedFault {
 };
 
 #[test]
-fn keeps_the_limits(rt: HostRuntime) -> Result<(), Fail> {
+fn keeps_the_limits(rt: HostRuntime) {
     for limit in &LIMITS {
-        let head = limit.head;
-        let last = limit.reading(rt.alloc(), head, limit.count)?;
+        let (head, larger) = (limit.head, limit.larger_head);
+        let last = limit.reading(&rt, rt.alloc(), head, limit.count);
         assert!(rt; last == Ok(limit.declared), "{head:?}");
-        let next = limit.reading(rt.alloc(), limit.larger_head, limit.larger_count)?;
-        assert!(rt; next == Err(TOO_LARGE), "{head:?}");
+        let next = limit.reading(&rt, rt.alloc(), larger, limit.larger_count);
+        assert!(rt; next == Err(TOO_LARGE), "{larger:?}");
     }
-    Ok(())
 }
 
 #[test]
@@ -467,16 +483,23 @@ fn is_answered(alloc: Global, text: &[u8]) -> bool {
     line <= 20 && (line == 0 || kind != FedFaultKind::OutOfMemory)
 }
 
-#[test]
-fn answers_each_change_of_a_byte(rt: HostRuntime) -> Result<(), Fail> {
-    let mut text = FED.as_bytes().to_vec(rt.alloc())?;
+/// What each byte of a text is changed to in turn.
+static BYTES: [u8; 5] = [b'(', b'"', b';', 0, 0xff];
+
+/// Says that a text is answered with each of its bytes changed.
+fn check_changes(rt: &impl Abort, alloc: Global, text: &mut [u8]) {
     for place in 0..text.len() {
         let before = text[place];
-        for byte in [b'(', b'"', b';', 0, 0xff] {
-            text[place] = byte;
-            assert!(rt; is_answered(rt.alloc(), text.as_slice()), "{place}");
+        for byte in &BYTES {
+            text[place] = *byte;
+            assert!(rt; is_answered(alloc, text), "{byte} at {place}");
         }
         text[place] = before;
     }
-    Ok(())
+}
+
+#[test]
+fn answers_each_change_of_a_byte(rt: HostRuntime) {
+    let mut text = FED.as_bytes().to_vec(rt.alloc()).expect(&rt, "room");
+    check_changes(&rt, rt.alloc(), text.as_mut_slice());
 }

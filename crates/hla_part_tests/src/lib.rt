@@ -9,6 +9,8 @@ mod facts;
 #[cfg(test)]
 mod fed_files;
 #[cfg(test)]
+mod federates;
+#[cfg(test)]
 mod listing;
 #[cfg(test)]
 mod locals;

@@ -9,7 +9,7 @@ struct Listing {
     written: &'static str,
 }
 
-const LISTINGS: [Listing; 3] = [
+static LISTINGS: [Listing; 3] = [
     Listing {
         name: "a catalogue",
         fed: "(fed (FEDERATION \"My Fed\") (FedVersion v1.3) ; note
@@ -61,8 +61,9 @@ fn lists_a_catalogue_or_writes_nothing(rt: HostRuntime) {
         let mut out = Vec::new(rt.alloc());
         let fed = listing.fed.as_bytes();
         let answer = list(rt.alloc(), fed, &mut Watched::new(&mut out));
-        assert!(rt; answer == listing.answer, "{}", listing.name);
         let is_written = out.as_slice() == listing.written.as_bytes();
-        assert!(rt; is_written, "{}", listing.name);
+        drop(out);
+        let is_listed = is_written && answer == listing.answer;
+        assert!(rt; is_listed, "{}, as it says: {is_written}", listing.name);
     }
 }

@@ -83,21 +83,24 @@ fn is_retracted(local: &mut Local, sender: FederateNo, serial: Serial) -> bool
 }
 
 fn hear(local: &mut Local, epoch: u64, bound: Ticks) {
-    let _ = local.accept(2, Message::Null { epoch, bound });
+    drop(local.accept(2, Message::Null { epoch, bound }));
 }
 
 /// What is picked up, without what that carries; none where that took memory that was refused.
 fn picked(local: &mut Local) -> Option<NextPick> {
-    match local.pick() {
+    let picked = local.pick();
+    let kind = match &picked {
         Ok(Picked::Nothing) => Some(NextPick::Nothing),
         Ok(Picked::Control(_)) => Some(NextPick::Control),
         Ok(Picked::Received(_)) => Some(NextPick::Received),
         Ok(Picked::Regulation(_)) => Some(NextPick::Regulation),
         Ok(Picked::Constraint(_)) => Some(NextPick::Constraint),
         Ok(Picked::Ordered(_)) => Some(NextPick::Ordered),
-        Ok(Picked::Grant(time)) => Some(NextPick::Grant(time)),
+        Ok(Picked::Grant(time)) => Some(NextPick::Grant(*time)),
         Err(_) => None,
-    }
+    };
+    drop(picked);
+    kind
 }
 
 /// One that has asked to be constrained at 10.
@@ -109,7 +112,8 @@ fn pending(alloc: Global) -> Local {
     local
 }
 
-const BELOW: [&str; 6] = [
+/// What is so of one that is sent a message at 12 and one below its time.
+static BELOW: [&str; 6] = [
     "a message is taken in",
     "one below its time is",
     "it is constrained",
@@ -118,26 +122,29 @@ const BELOW: [&str; 6] = [
     "the other waits",
 ];
 
-/// What is so of one that is sent a message at 12 and one below its time.
-fn below(alloc: Global) -> [bool; 6] {
-    let mut local = pending(alloc);
-    let first = is_taken(alloc, &mut local, 2, 1, 12);
-    let second = is_taken_beside(alloc, &mut local, 3, 1, 5);
+#[test]
+fn gives_what_is_below_its_time_with_asynchronous_delivery(rt: HostRuntime) {
+    let mut local = pending(rt.alloc());
+    let first = is_taken(rt.alloc(), &mut local, 2, 1, 12);
+    let second = is_taken_beside(rt.alloc(), &mut local, 3, 1, 5);
     let entered = picked(&mut local);
     let next = local.next_pick();
     local.set_asynchronous_delivery(true);
     let given = picked(&mut local);
-    [
+    let facts = [
         first,
         second,
         entered == Some(NextPick::Constraint),
         next == NextPick::Nothing,
         given == Some(NextPick::Received),
         local.least_waiting() == 12,
-    ]
+    ];
+    drop(local);
+    check(&rt, &BELOW, &facts);
 }
 
-const WAITING: [&str; 7] = [
+/// What is so of one that waits for its time until the bound passes.
+static WAITING: [&str; 7] = [
     "it is constrained",
     "a message is taken in",
     "it waits at the bound",
@@ -147,12 +154,12 @@ const WAITING: [&str; 7] = [
     "its bar is behind its time",
 ];
 
-/// What is so of one that waits for its time until the bound passes.
-fn waiting(alloc: Global) -> [bool; 7] {
-    let mut local = pending(alloc);
+#[test]
+fn waits_for_its_time_until_the_bound_passes(rt: HostRuntime) {
+    let mut local = pending(rt.alloc());
     local.meet(2, 1, 12);
     let entered = picked(&mut local);
-    let is_taken = is_taken(alloc, &mut local, 2, 1, 12);
+    let is_taken = is_taken(rt.alloc(), &mut local, 2, 1, 12);
     local.request(AdvanceKind::TimeAdvance, 20);
     let waits = picked(&mut local);
     hear(&mut local, 1, 20);
@@ -160,7 +167,7 @@ fn waiting(alloc: Global) -> [bool; 7] {
     let waits_again = picked(&mut local);
     hear(&mut local, 1, 21);
     let granted = picked(&mut local);
-    [
+    let facts = [
         entered == Some(NextPick::Constraint),
         is_taken,
         waits == Some(NextPick::Nothing),
@@ -168,25 +175,31 @@ fn waiting(alloc: Global) -> [bool; 7] {
         waits_again == Some(NextPick::Nothing),
         granted == Some(NextPick::Grant(20)),
         local.bar() == 21,
-    ]
+    ];
+    drop(local);
+    check(&rt, &WAITING, &facts);
 }
 
-const AVAILABLE: [&str; 2] = ["it is constrained", "it is granted its time at the bound"];
-
 /// What is so of one that asks for the bound where that is available.
-fn available(alloc: Global) -> [bool; 2] {
-    let mut local = pending(alloc);
+static AVAILABLE: [&str; 2] = ["it is constrained", "it is granted its time at the bound"];
+
+#[test]
+fn is_granted_the_bound_where_that_is_available(rt: HostRuntime) {
+    let mut local = pending(rt.alloc());
     local.meet(2, 1, 20);
     let entered = picked(&mut local);
     local.request(AdvanceKind::TimeAdvanceAvailable, 20);
     let granted = picked(&mut local);
-    [
+    let facts = [
         entered == Some(NextPick::Constraint),
         granted == Some(NextPick::Grant(20)),
-    ]
+    ];
+    drop(local);
+    check(&rt, &AVAILABLE, &facts);
 }
 
-const TAKEN_BACK: [&str; 7] = [
+/// What is so of a message that is taken back before it is given, and is asked back where it does not wait.
+static TAKEN_BACK: [&str; 7] = [
     "a message is taken in",
     "it was received",
     "it is retracted",
@@ -196,17 +209,17 @@ const TAKEN_BACK: [&str; 7] = [
     "and picks that up",
 ];
 
-/// What is so of a message that is taken back before it is given, and is asked back where it does not wait.
-fn taken_back(alloc: Global) -> [bool; 7] {
-    let mut local = Local::new(alloc);
-    let is_taken = is_taken(alloc, &mut local, 2, 1, 7);
+#[test]
+fn takes_back_what_waits_and_asks_for_the_rest(rt: HostRuntime) {
+    let mut local = Local::new(rt.alloc());
+    let is_taken = is_taken(rt.alloc(), &mut local, 2, 1, 7);
     let is_received = local.first_received().is_some();
     let is_back = is_retracted(&mut local, 2, 1);
     let next = local.next_pick();
     let is_asked = is_retracted(&mut local, 2, 1);
     let is_controlled = local.first_control().is_some();
     let asked = picked(&mut local);
-    [
+    let facts = [
         is_taken,
         is_received,
         is_back,
@@ -214,26 +227,32 @@ fn taken_back(alloc: Global) -> [bool; 7] {
         is_asked,
         is_controlled,
         asked == Some(NextPick::Control),
-    ]
+    ];
+    drop(local);
+    check(&rt, &TAKEN_BACK, &facts);
 }
 
-const HEARD: [&str; 2] = [
+/// What is so of one that hears of two epochs.
+static HEARD: [&str; 2] = [
     "it hears nothing of an old epoch",
     "it hears a peer in its present epoch",
 ];
 
-/// What is so of one that hears of two epochs.
-fn heard(alloc: Global) -> [bool; 2] {
-    let mut local = Local::new(alloc);
+#[test]
+fn hears_a_peer_in_its_present_epoch(rt: HostRuntime) {
+    let mut local = Local::new(rt.alloc());
     local.meet(2, 1, 5);
     hear(&mut local, 0, 9);
     let old = local.bound();
     local.lower(2, 2, 3);
     hear(&mut local, 2, 9);
-    [old == 5, local.bound() == 9]
+    let facts = [old == 5, local.bound() == 9];
+    drop(local);
+    check(&rt, &HEARD, &facts);
 }
 
-const REGULATING: [&str; 7] = [
+/// What is so of one that regulates, ceases and resigns.
+static REGULATING: [&str; 7] = [
     "it has announced from where it sends",
     "it regulates",
     "it promises that still with less lookahead",
@@ -243,9 +262,9 @@ const REGULATING: [&str; 7] = [
     "it is in its second epoch then",
 ];
 
-/// What is so of one that regulates, ceases and resigns.
-fn regulating(alloc: Global) -> [bool; 7] {
-    let mut local = Local::new(alloc);
+#[test]
+fn regulates_ceases_and_resigns(rt: HostRuntime) {
+    let mut local = Local::new(rt.alloc());
     local.regulate_from(2, 6);
     let announced = local.last_announced();
     let entered = picked(&mut local);
@@ -256,7 +275,7 @@ fn regulating(alloc: Global) -> [bool; 7] {
     local.cease_regulation();
     let ceased = local.last_announced();
     local.resign();
-    [
+    let facts = [
         announced == 6,
         entered == Some(NextPick::Regulation),
         promise == 6,
@@ -264,10 +283,13 @@ fn regulating(alloc: Global) -> [bool; 7] {
         ceased == FOREVER,
         local.state().time() == 0,
         local.epoch() == 1,
-    ]
+    ];
+    drop(local);
+    check(&rt, &REGULATING, &facts);
 }
 
-const LEFT: [&str; 6] = [
+/// What is so of one that ceases to be constrained, and is given all in receive order then.
+static LEFT: [&str; 6] = [
     "a message is taken in",
     "it waits in time-stamp order",
     "it waits there alone",
@@ -276,35 +298,23 @@ const LEFT: [&str; 6] = [
     "it was received",
 ];
 
-/// What is so of one that ceases to be constrained, and is given all in receive order then.
-fn left(alloc: Global) -> [bool; 6] {
-    let mut local = pending(alloc);
-    let is_taken = is_taken(alloc, &mut local, 2, 1, 12);
+#[test]
+fn gives_all_in_receive_order_once_it_has_left(rt: HostRuntime) {
+    let mut local = pending(rt.alloc());
+    let is_taken = is_taken(rt.alloc(), &mut local, 2, 1, 12);
     let waits = local.first_ordered().is_some();
-    let waits_alone =
-        matches!(local.ordered_below(alloc, FOREVER), Ok(handles) if handles.len() == 1);
+    let handles = local.ordered_below(rt.alloc(), FOREVER).expect(&rt, "room");
+    let waits_alone = handles.len() == 1;
+    drop(handles);
     let has_ceased = local.cease_constraint().is_ok();
-    [
+    let facts = [
         is_taken,
         waits,
         waits_alone,
         has_ceased,
         local.first_ordered().is_none(),
         local.next_pick() == NextPick::Received,
-    ]
-}
-
-#[test]
-fn gives_what_waits_in_its_time(rt: HostRuntime) {
-    check(&rt, &BELOW, &below(rt.alloc()));
-    check(&rt, &WAITING, &waiting(rt.alloc()));
-    check(&rt, &AVAILABLE, &available(rt.alloc()));
-    check(&rt, &TAKEN_BACK, &taken_back(rt.alloc()));
-    check(&rt, &LEFT, &left(rt.alloc()));
-}
-
-#[test]
-fn hears_its_peers_and_regulates(rt: HostRuntime) {
-    check(&rt, &HEARD, &heard(rt.alloc()));
-    check(&rt, &REGULATING, &regulating(rt.alloc()));
+    ];
+    drop(local);
+    check(&rt, &LEFT, &facts);
 }

@@ -8,7 +8,8 @@ const NEXT_TO_10: Option<AdvanceRequest> = Some(AdvanceRequest {
     asked: 10,
 });
 
-const FLOOR: [&str; 8] = [
+/// What is so of a constrained federate's floor from 4 on, as it asks for the next event up to 10 and is granted 7.
+static FLOOR: [&str; 8] = [
     "starts where it is",
     "does not rise outside of a request",
     "rises with a request",
@@ -19,8 +20,8 @@ const FLOOR: [&str; 8] = [
     "lets the greatest stamp be sent at the end of time",
 ];
 
-/// What is so of a constrained federate's floor from 4 on, as it asks for the next event up to 10 and is granted 7.
-fn floor() -> [bool; 8] {
+#[test]
+fn rises_and_never_falls(rt: HostRuntime) {
     let mut floor = Floor::new(4, 4);
     let at_first = floor.least_stamp(None);
     floor.on_request(AdvanceKind::NextEvent, 10, true);
@@ -35,7 +36,7 @@ fn floor() -> [bool; 8] {
     let asked_again = floor.least_stamp(None);
     floor.set_lookahead(MAX_TIME);
     floor.on_request(AdvanceKind::FlushQueue, MAX_TIME, false);
-    [
+    let facts = [
         at_first == 4,
         asked == 4,
         asking == 14,
@@ -44,10 +45,6 @@ fn floor() -> [bool; 8] {
         lowered == 11,
         asked_again == 21,
         floor.may_send(2 * MAX_TIME, None),
-    ]
-}
-
-#[test]
-fn rises_and_never_falls(rt: HostRuntime) {
-    check(&rt, &FLOOR, &floor());
+    ];
+    check(&rt, &FLOOR, &facts);
 }

@@ -2,7 +2,8 @@ use crate::facts::check;
 use hla_base::FOREVER;
 use hla_lbts::Peers;
 
-const BOUND: [&str; 7] = [
+/// What is so of the bound of three peers, two at 5 and one at 9 in a later epoch, as more is heard of them.
+static BOUND: [&str; 7] = [
     "there is none of no peers",
     "is that of the least peers at first",
     "stays where one of two least peers rises",
@@ -12,8 +13,8 @@ const BOUND: [&str; 7] = [
     "falls where a peer is lowered in a new epoch",
 ];
 
-/// What is so of the bound of three peers, two at 5 and one at 9 in a later epoch, as more is heard of them.
-fn bound() -> [bool; 7] {
+#[test]
+fn bounds_follow_the_least_peer(rt: HostRuntime) {
     let none = Peers::new().bound();
     let mut peers = Peers::new();
     peers.lower(3, 1, 5);
@@ -30,7 +31,7 @@ fn bound() -> [bool; 7] {
     peers.accept(16, 2, 7);
     let fourth = peers.bound();
     peers.lower(16, 3, 4);
-    [
+    let facts = [
         none == FOREVER,
         at_first == 5,
         first == 5,
@@ -38,10 +39,6 @@ fn bound() -> [bool; 7] {
         third == 8,
         fourth == 9,
         peers.bound() == 4,
-    ]
-}
-
-#[test]
-fn bounds_follow_the_least_peer(rt: HostRuntime) {
-    check(&rt, &BOUND, &bound());
+    ];
+    check(&rt, &BOUND, &facts);
 }

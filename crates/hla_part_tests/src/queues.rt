@@ -1,13 +1,17 @@
 ghost use Rattle.std.specs.Prelude.{◌<◌};
 
 use crate::facts::check;
-use hla_base::{Content, Event, FOREVER, Fault, FederateNo, Serial, Ticks};
+use hla_base::{Content, Event, FOREVER, FederateNo, Serial, Ticks};
 use hla_order_queues::{RoQueue, TsoQueue};
-use std::alloc::{AllocError, Global};
+use std::alloc::Global;
 use std::process::Abort;
-use std::test::Fail;
 
-fn event(sender: FederateNo, serial: Serial, stamp: Ticks) -> Event {
+/// What orders events: the stamp, the sender and its serial.
+type Key = (Ticks, FederateNo, Serial);
+
+/// The event with a key.
+fn event(key: Key) -> Event {
+    let (stamp, sender, serial) = key;
     Event {
         sender,
         serial,
@@ -17,62 +21,62 @@ fn event(sender: FederateNo, serial: Serial, stamp: Ticks) -> Event {
     }
 }
 
-/// What orders events: the stamp, the sender and its serial.
-type Key = (Ticks, FederateNo, Serial);
-
-fn key(event: &Event) -> Key {
-    (event.stamp, event.sender, event.serial)
-}
-
 /// The key of an event that was taken out, if one was.
 fn key_of(event: Option<Event>) -> Option<Key> {
-    match event {
-        Some(event) => Some(key(&event)),
+    let key = match &event {
+        Some(event) => Some((event.stamp, event.sender, event.serial)),
         None => None,
-    }
+    };
+    drop(event);
+    key
 }
 
-/// Puts an event into a queue that does not have it, and says whether that was done.
-fn put(queue: &mut TsoQueue, event: Event) -> bool {
+/// Puts the event with a key into a queue that does not have it, and says whether that was done.
+fn put(queue: &mut TsoQueue, key: Key) -> bool {
+    let event = event(key);
     if queue.has_event(event.sender, event.serial) {
+        drop(event);
         return false;
     }
-    queue.insert(event).is_ok()
+    let put = queue.insert(event);
+    let is_put = put.is_ok();
+    drop(put);
+    is_put
 }
 
-/// The event of a number.
-fn event_of(i: u64) -> Event
+/// The key of a number.
+fn key_at(i: u64) -> Key
     requires { i < 10000 }
 {
-    event(1 + (i % 16) as u32, i + 1, 7919 * i % 1009)
+    (7919 * i % 1009, 1 + (i % 16) as u32, i + 1)
 }
 
 /// Puts ten thousand events into a queue.
 fn fill(rt: &impl Abort, queue: &mut TsoQueue) {
     for i in 0..10_000u64 {
-        assert!(rt; put(queue, event_of(i)));
+        assert!(rt; put(queue, key_at(i)));
     }
 }
 
 /// Takes out each third of the events of `fill`.
 fn remove_thirds(rt: &impl Abort, queue: &mut TsoQueue) {
     for i in 0..3_334u64 {
-        let expected = key(&event_of(3 * i));
+        let expected = key_at(3 * i);
         let removed = key_of(queue.remove(expected.1, expected.2));
         assert!(rt; removed == Some(expected));
     }
 }
 
 /// The keys of what `remove_thirds` leaves, sorted.
-fn keys_left(alloc: Global) -> Result<Vec<Key>, AllocError> {
+fn keys_left(rt: &impl Abort, alloc: Global) -> Vec<Key> {
     let mut left = Vec::new(alloc);
     for i in 0..10_000u64 {
         if i % 3 != 0 {
-            left.push(key(&event_of(i)))?;
+            left.push(key_at(i)).expect(rt, "room");
         }
     }
-    left.sort()?;
-    Ok(left)
+    left.sort().expect(rt, "room");
+    left
 }
 
 /// Takes out all events of a queue, which must have these keys, in this order.
@@ -85,29 +89,24 @@ fn take_all(rt: &impl Abort, queue: &mut TsoQueue, keys: &[Key]) {
 }
 
 #[test]
-fn gives_what_is_left_in_the_order_of_a_sorted_list(rt: HostRuntime) -> Result<(), Fail> {
-    let keys = keys_left(rt.alloc())?;
+fn gives_what_is_left_in_the_order_of_a_sorted_list(rt: HostRuntime) {
+    let keys = keys_left(&rt, rt.alloc());
     let mut queue = TsoQueue::new(rt.alloc());
     fill(&rt, &mut queue);
     remove_thirds(&rt, &mut queue);
     take_all(&rt, &mut queue, keys.as_slice());
-    Ok(())
+    drop(queue);
+    drop(keys);
 }
 
-/// Five events, of which four are below 9: the sender, the serial and the stamp of each.
-const FIVE: [(FederateNo, Serial, Ticks); 5] = [
-    (2, 1, 7),
-    (1, 2, 7),
-    (1, 1, 7),
-    (3, 1, 9),
-    (3, 2, 5),
-];
+/// Five events, of which four are below 9.
+static FIVE: [Key; 5] = [(7, 2, 1), (7, 1, 2), (7, 1, 1), (9, 3, 1), (5, 3, 2)];
 
 /// Whether the five events are put into a queue.
 fn are_put(queue: &mut TsoQueue) -> bool {
     let mut are_put = true;
-    for (sender, serial, stamp) in FIVE {
-        are_put = put(queue, event(sender, serial, stamp)) && are_put;
+    for key in &FIVE {
+        are_put = put(queue, *key) && are_put;
     }
     are_put
 }
@@ -118,14 +117,21 @@ fn are_received(received: &RoQueue, expected: &[Key]) -> bool {
     for (place, expected) in expected.iter().enumerate() {
         is_same = is_same
             && match received.nth(place) {
-                Some(event) => key(event) == *expected,
+                Some(event) => (event.stamp, event.sender, event.serial) == *expected,
                 None => false,
             };
     }
     is_same
 }
 
-const MOVED: [&str; 8] = [
+/// What was received once four events have moved behind one that was received before.
+static FOUR_MOVED: [Key; 5] = [(1, 9, 9), (5, 3, 2), (7, 1, 1), (7, 1, 2), (7, 2, 1)];
+
+/// And once the last of them was taken out, and the fifth has moved.
+static FIFTH_MOVED: [Key; 5] = [(1, 9, 9), (5, 3, 2), (7, 1, 1), (7, 1, 2), (9, 3, 1)];
+
+/// What is so of the five events, as they move.
+static MOVED: [&str; 8] = [
     "five events are put into a queue",
     "the least stamp is that of the least event",
     "one event is not below the bound",
@@ -136,18 +142,20 @@ const MOVED: [&str; 8] = [
     "the fifth moves behind those that are left",
 ];
 
-/// What is so of five events, of which four move behind one that was received before, and the fifth once one was taken out.
-fn moved(queue: &mut TsoQueue, received: &mut RoQueue) -> Result<[bool; 8], Fault> {
-    let are_put = are_put(queue);
+#[test]
+fn moves_what_is_below_a_bound(rt: HostRuntime) {
+    let mut received = RoQueue::new(rt.alloc());
+    received.reserve(1).expect(&rt, "room");
+    received.put(event((1, 9, 9)));
+    let mut queue = TsoQueue::new(rt.alloc());
+    let are_put = are_put(&mut queue);
     let least = queue.least_stamp();
-    queue.move_below(9, received)?;
+    queue.move_below(9, &mut received).expect(&rt, "room");
     let left = queue.len();
-    let first = [(1, 9, 9), (5, 3, 2), (7, 1, 1), (7, 1, 2), (7, 2, 1)];
-    let are_moved = are_received(received, &first);
+    let are_moved = are_received(&received, &FOUR_MOVED);
     let removed = key_of(received.remove(2, 1));
-    queue.move_below(FOREVER, received)?;
-    let last = [(1, 9, 9), (5, 3, 2), (7, 1, 1), (7, 1, 2), (9, 3, 1)];
-    Ok([
+    queue.move_below(FOREVER, &mut received).expect(&rt, "room");
+    let facts = [
         are_put,
         least == 5,
         left == 1,
@@ -155,20 +163,9 @@ fn moved(queue: &mut TsoQueue, received: &mut RoQueue) -> Result<[bool; 8], Faul
         removed == Some((7, 2, 1)),
         queue.least().is_none(),
         received.least_ordered() == 1,
-        are_received(received, &last),
-    ])
-}
-
-/// What is so where one event was received before.
-fn moved_behind_one(alloc: Global) -> Result<[bool; 8], Fault> {
-    let mut received = RoQueue::new(alloc);
-    received.reserve(1)?;
-    received.put(event(9, 9, 1));
-    moved(&mut TsoQueue::new(alloc), &mut received)
-}
-
-#[test]
-fn moves_what_is_below_a_bound(rt: HostRuntime) -> Result<(), Fail> {
-    check(&rt, &MOVED, &moved_behind_one(rt.alloc())?);
-    Ok(())
+        are_received(&received, &FIFTH_MOVED),
+    ];
+    drop(queue);
+    drop(received);
+    check(&rt, &MOVED, &facts);
 }

@@ -1,8 +1,8 @@
 use crate::facts::check;
 use hla_base::{AdvanceKind, MAX_SCRIPT};
 use hla_commands::{Call, Command, Line, parse};
-use std::alloc::{AllocError, Global};
-use std::test::Fail;
+use std::alloc::Global;
+use std::process::Abort;
 
 /// What `reading_of` says of a script with no fault, beside how many lines with a command it has.
 const READ: &str = "none";
@@ -17,7 +17,7 @@ fn reading_of(alloc: Global, text: &[u8]) -> (usize, &'static str) {
 
 /// Scripts, and what `reading_of` says of each: those with a fault, those with one of a stamp or a handle or of time management, and
 /// those with none.
-const SCRIPTS: [(&str, usize, &str); 117] = [
+static SCRIPTS: [(&str, usize, &str); 117] = [
     ("create\ncreate x", 2, "ExtraWord"),
     ("\n\n # x", 3, "UnknownWord"),
     ("join", 1, "MissingWord"),
@@ -155,14 +155,22 @@ const SCRIPTS: [(&str, usize, &str); 117] = [
 
 #[test]
 fn reads_a_script_or_finds_its_first_fault(rt: HostRuntime) {
-    for (text, line, kind) in SCRIPTS.iter() {
+    for (text, line, kind) in &SCRIPTS {
         let reading = reading_of(rt.alloc(), text.as_bytes());
-        assert_eq!(rt; reading, (*line, *kind), "in {text:?}");
+        assert!(rt;
+            reading == (*line, *kind),
+            "{text:?} is read as {} {}",
+            reading.0,
+            reading.1
+        );
     }
 }
 
-/// Whether a call has the numbers of its line in `NUMBERS`.
-fn has_its_numbers(call: &Call) -> bool {
+/// Whether a line is a federate's, with the numbers that stand in `NUMBERS`.
+fn is_read(line: &Line) -> bool {
+    let Command::Federate { call, .. } = &line.command else {
+        return false;
+    };
     match call {
         Call::EnableTimeRegulation { time, lookahead } => *time == 5 && *lookahead == 2,
         Call::RequestAdvance { kind, time } => {
@@ -184,63 +192,52 @@ A delete 3 @9
 A retract 1.4
 ";
 
-/// Whether a line is a federate's, with the numbers that stand in `NUMBERS`.
-fn is_read(line: &Line) -> bool {
-    match &line.command {
-        Command::Federate { call, .. } => has_its_numbers(call),
-        _ => false,
+/// Says that each line is read with its numbers.
+fn check_lines(rt: &impl Abort, lines: &[Line]) {
+    assert!(rt; lines.len() == 6);
+    for line in lines {
+        assert!(rt; is_read(line), "line {}", line.number);
     }
 }
 
 #[test]
-fn reads_numbers_where_they_stand(rt: HostRuntime) -> Result<(), Fail> {
-    let script = parse(rt.alloc(), NUMBERS.as_bytes())?;
-    assert!(rt; script.len() == 6);
-    for line in script.as_slice() {
-        assert!(rt; is_read(line), "line {}", line.number);
-    }
-    Ok(())
+fn reads_numbers_where_they_stand(rt: HostRuntime) {
+    let script = parse(rt.alloc(), NUMBERS.as_bytes()).expect(&rt, "a script");
+    check_lines(&rt, script.as_slice());
 }
 
-/// The longest script of the longest lines, all comments.
-fn longest_script(alloc: Global) -> Result<Vec<u8>, AllocError> {
-    let mut text = vec![in alloc; b'#'; MAX_SCRIPT]?;
+/// The longest script of the longest lines, all comments, with a byte at the end of the first line.
+fn longest_script(rt: &impl Abort, alloc: Global, end: u8) -> Vec<u8> {
+    let mut text = vec![in alloc; b'#'; MAX_SCRIPT].expect(rt, "room");
     for i in (4096..MAX_SCRIPT).step_by(4097) {
         if let Some(byte) = text.get_mut(i) {
-            *byte = b'\n';
+            *byte = if i == 4096 { end } else { b'\n' };
         }
     }
-    Ok(text)
+    text
 }
 
-const LIMITS: [&str; 3] = [
+/// What is so of the longest script, one whose first line is longer, and a longer one.
+static LIMITS: [&str; 3] = [
     "the longest lines are read",
     "a longer line is too large",
     "a longer script is too large, which is told of its first line",
 ];
 
-/// What is so of the longest script, one whose first line is longer, and a longer one.
-fn limits(alloc: Global, text: &mut Vec<u8>) -> Result<[bool; 3], AllocError> {
-    let longest = reading_of(alloc, text.as_slice());
-    if let Some(byte) = text.get_mut(4096) {
-        *byte = b'\r';
-    }
-    let (_, of_line) = reading_of(alloc, text.as_slice());
-    if let Some(byte) = text.get_mut(4096) {
-        *byte = b'\n';
-    }
-    text.push(b'\n')?;
-    let of_script = reading_of(alloc, text.as_slice());
-    Ok([
+#[test]
+fn limits_lines_and_scripts(rt: HostRuntime) {
+    let mut text = longest_script(&rt, rt.alloc(), b'\n');
+    let longest = reading_of(rt.alloc(), text.as_slice());
+    text.push(b'\n').expect(&rt, "room");
+    let longer = reading_of(rt.alloc(), text.as_slice());
+    drop(text);
+    let text = longest_script(&rt, rt.alloc(), b'\r');
+    let (_, of_line) = reading_of(rt.alloc(), text.as_slice());
+    drop(text);
+    let facts = [
         longest == (0, READ),
         of_line == "TooLarge",
-        of_script == (1, "TooLarge"),
-    ])
-}
-
-#[test]
-fn limits_lines_and_scripts(rt: HostRuntime) -> Result<(), Fail> {
-    let mut text = longest_script(rt.alloc())?;
-    check(&rt, &LIMITS, &limits(rt.alloc(), &mut text)?);
-    Ok(())
+        longer == (1, "TooLarge"),
+    ];
+    check(&rt, &LIMITS, &facts);
 }

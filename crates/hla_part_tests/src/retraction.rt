@@ -1,23 +1,9 @@
-ghost use Rattle.std.specs.Prelude.{◌<◌, ◌≤◌};
-
 use crate::facts::check;
-use hla_base::{FederateNo, FederateSet, Serial, Ticks};
+use crate::federates::pair;
+use hla_base::{FederateSet, Serial, Ticks};
 use hla_retraction::Sent;
 use std::alloc::Global;
 use std::process::Abort;
-use std::test::Fail;
-
-fn pair(first: FederateNo, second: FederateNo) -> FederateSet
-    requires first_some { 0 < first }
-    requires first_within { first ≤ 16 }
-    requires second_some { 0 < second }
-    requires second_within { second ≤ 16 }
-{
-    let mut receivers = FederateSet::new();
-    receivers.add(first);
-    receivers.add(second);
-    receivers
-}
 
 /// Retracts a message if that is accepted from a regulating sender, and says whether it was.
 fn take_back(sent: &mut Sent, least: Ticks, serial: Serial) -> bool {
@@ -39,35 +25,30 @@ fn mask(receivers: FederateSet) -> u64 {
     mask
 }
 
-/// Message 3 went to federates 2 and 16, and message 5 to federate 4.
-fn two_sent(alloc: Global) -> Result<Sent, Fail> {
-    let mut sent = Sent::new(alloc);
-    sent.note(3, 20, pair(2, 16))?;
-    sent.note(5, 10, pair(4, 4))?;
-    Ok(sent)
-}
-
-const RECEIVERS: [&str; 3] = [
+/// What is so of receivers, to which one more is added.
+static RECEIVERS: [&str; 3] = [
     "are those that were added",
     "are no others in a copy from before",
     "are none beyond the last federate",
 ];
 
-/// What is so of receivers, to which one more is added.
-fn receivers() -> [bool; 3] {
+#[test]
+fn receivers_are_those_that_were_added(rt: HostRuntime) {
     let mut receivers = FederateSet::new();
     receivers.add(16);
     let before = receivers;
     receivers.add(1);
     receivers.add(16);
-    [
+    let facts = [
         mask(receivers) == (1 << 16) | (1 << 1),
         mask(before) == 1 << 16,
         !receivers.has(u32::MAX),
-    ]
+    ];
+    check(&rt, &RECEIVERS, &facts);
 }
 
-const NOTHING_SENT: [&str; 6] = [
+/// What is so where nothing was sent.
+static NOTHING_SENT: [&str; 6] = [
     "message 0 is not retracted where nothing was sent",
     "message 1 is not, either",
     "message 2 is not, either",
@@ -76,20 +57,31 @@ const NOTHING_SENT: [&str; 6] = [
     "message 2 has none, either",
 ];
 
-/// What is so where nothing was sent.
-fn nothing_sent(alloc: Global) -> [bool; 6] {
-    let sent = Sent::new(alloc);
-    [
+#[test]
+fn nothing_is_retracted_where_nothing_was_sent(rt: HostRuntime) {
+    let sent = Sent::new(rt.alloc());
+    let facts = [
         !sent.may_retract(true, 0, 0),
         !sent.may_retract(true, 0, 1),
         !sent.may_retract(true, 0, 2),
         !sent.is_receiver(0, 1),
         !sent.is_receiver(1, 1),
         !sent.is_receiver(2, 1),
-    ]
+    ];
+    drop(sent);
+    check(&rt, &NOTHING_SENT, &facts);
 }
 
-const RETRACTED: [&str; 9] = [
+/// Message 3 went to federates 2 and 16, and message 5 to federate 4.
+fn two_sent(rt: &impl Abort, alloc: Global) -> Sent {
+    let mut sent = Sent::new(alloc);
+    sent.note(3, 20, pair(2, 16)).expect(rt, "room");
+    sent.note(5, 10, pair(4, 4)).expect(rt, "room");
+    sent
+}
+
+/// What is so of the messages of `two_sent`, which are retracted.
+static RETRACTED: [&str; 9] = [
     "no message is retracted that was not sent",
     "a message is retracted",
     "it is not retracted again",
@@ -101,14 +93,14 @@ const RETRACTED: [&str; 9] = [
     "a message that was not sent has none",
 ];
 
-/// What is so of the messages of `two_sent`, which are retracted.
-fn retracted(alloc: Global) -> Result<[bool; 9], Fail> {
-    let mut sent = two_sent(alloc)?;
+#[test]
+fn what_was_sent_is_retracted_once(rt: HostRuntime) {
+    let mut sent = two_sent(&rt, rt.alloc());
     let unsent = take_back(&mut sent, 0, 4);
     let first = take_back(&mut sent, 0, 3);
     let again = take_back(&mut sent, 0, 3);
     let other = take_back(&mut sent, 0, 5);
-    Ok([
+    let facts = [
         !unsent,
         first,
         !again,
@@ -118,75 +110,72 @@ fn retracted(alloc: Global) -> Result<[bool; 9], Fail> {
         sent.is_receiver(5, 4),
         !sent.is_receiver(3, 4),
         !sent.is_receiver(4, 4),
-    ])
+    ];
+    drop(sent);
+    check(&rt, &RETRACTED, &facts);
 }
 
-const LEAST: [&str; 4] = [
+/// What is so of a message at 20.
+static LEAST: [&str; 4] = [
     "a stamp below the least is not taken back",
     "nor the least",
     "one above the least is",
     "nor is it where its sender does not regulate",
 ];
 
-/// What is so of a message at 20.
-fn sent_at_20(alloc: Global) -> Result<[bool; 4], Fail> {
-    let mut sent = Sent::new(alloc);
-    sent.note(1, 20, FederateSet::new())?;
-    Ok([
+#[test]
+fn what_was_sent_above_the_least_is_retracted(rt: HostRuntime) {
+    let mut sent = Sent::new(rt.alloc());
+    sent.note(1, 20, FederateSet::new()).expect(&rt, "room");
+    let facts = [
         !sent.may_retract(true, 21, 1),
         !sent.may_retract(true, 20, 1),
         sent.may_retract(true, 19, 1),
         !sent.may_retract(false, 19, 1),
-    ])
-}
-
-#[test]
-fn only_what_was_sent_above_the_least_is_retracted_once(rt: HostRuntime) -> Result<(), Fail> {
-    check(&rt, &RECEIVERS, &receivers());
-    check(&rt, &NOTHING_SENT, &nothing_sent(rt.alloc()));
-    check(&rt, &RETRACTED, &retracted(rt.alloc())?);
-    check(&rt, &LEAST, &sent_at_20(rt.alloc())?);
-    Ok(())
+    ];
+    drop(sent);
+    check(&rt, &LEAST, &facts);
 }
 
 /// A thousand messages of odd serials.
-fn many_sent(alloc: Global) -> Result<Sent, Fail> {
+fn many_sent(rt: &impl Abort, alloc: Global) -> Sent {
     let mut sent = Sent::new(alloc);
     for i in 0..1_000u64 {
-        sent.note(2 * i + 1, 5000 - i, pair(1 + (i % 16) as u32, 16))?;
+        sent.note(2 * i + 1, 5000 - i, pair(1 + (i % 16) as u32, 16))
+            .expect(rt, "room");
     }
-    Ok(sent)
+    sent
 }
 
-/// What is found of the message of a number: whether its serial and the one before it may be retracted, and whether its
-/// receiver and federate 2 are receivers.
-fn found(sent: &Sent, i: u64) -> [bool; 4]
-    requires { i < 1000 }
-{
-    [
-        sent.may_retract(true, 5000 - i, 2 * i + 1),
-        sent.may_retract(true, 0, 2 * i),
-        sent.is_receiver(2 * i + 1, 1 + (i % 16) as u32),
-        sent.is_receiver(2 * i + 1, 2),
-    ]
-}
-
-/// Finds each message, and takes each third of them back.
+/// Finds each message, and takes each third of them back: the message and the one before it may not be retracted there, its
+/// receiver is one, and federate 2 only where it is that.
 fn take_thirds_back(rt: &impl Abort, sent: &mut Sent) {
     for i in 0..1_000u64 {
-        assert!(rt; found(sent, i) == [false, false, true, i % 16 == 1]);
+        let facts = [
+            !sent.may_retract(true, 5000 - i, 2 * i + 1),
+            !sent.may_retract(true, 0, 2 * i),
+            sent.is_receiver(2 * i + 1, 1 + (i % 16) as u32),
+            sent.is_receiver(2 * i + 1, 2) == (i % 16 == 1),
+        ];
+        assert!(rt; facts == [true; 4], "message {i}");
         if i % 3 == 0 {
-            assert!(rt; take_back(sent, 4999 - i, 2 * i + 1));
+            assert!(rt; take_back(sent, 4999 - i, 2 * i + 1), "message {i}");
         }
     }
 }
 
-#[test]
-fn finds_each_of_many_messages(rt: HostRuntime) -> Result<(), Fail> {
-    let mut sent = many_sent(rt.alloc())?;
-    take_thirds_back(&rt, &mut sent);
+/// Each third message may not be retracted again, and all others may be.
+fn check_thirds(rt: &impl Abort, sent: &Sent) {
     for i in 0..1_000u64 {
-        assert!(rt; sent.may_retract(true, 0, 2 * i + 1) == (i % 3 != 0));
+        let may_retract = sent.may_retract(true, 0, 2 * i + 1);
+        assert!(rt; may_retract == (i % 3 != 0), "message {i}");
     }
-    Ok(())
+}
+
+#[test]
+fn finds_each_of_many_messages(rt: HostRuntime) {
+    let mut sent = many_sent(&rt, rt.alloc());
+    take_thirds_back(&rt, &mut sent);
+    check_thirds(&rt, &sent);
+    drop(sent);
 }

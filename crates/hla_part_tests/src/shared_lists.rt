@@ -1,9 +1,9 @@
-use hla_base::{Fault, List, Plain, SharedList};
+use hla_base::{List, Plain, SharedList};
 use std::alloc::Global;
-use std::test::Fail;
+use std::process::Abort;
 
 /// Two lists, and whether they are the same.
-const LISTS: [(&[u32], &[u32], bool); 5] = [
+static LISTS: [(&[u32], &[u32], bool); 5] = [
     (&[7, 9], &[7, 9], true),
     (&[7], &[7], true),
     (&[7], &[], false),
@@ -12,35 +12,35 @@ const LISTS: [(&[u32], &[u32], bool); 5] = [
 ];
 
 /// A shared list of these items, made of a copy of a list of them.
-fn shared(alloc: Global, items: &[u32]) -> Result<SharedList<u32>, Fault> {
+fn shared(rt: &impl Abort, alloc: Global, items: &[u32]) -> SharedList<u32> {
     let mut list = List::new(alloc);
     for item in items {
-        list.push(*item)?;
+        list.push(*item).expect(rt, "room");
     }
-    SharedList::from_list(list.copy()?)
+    let copy = list.copy().expect(rt, "room");
+    drop(list);
+    SharedList::from_list(copy).expect(rt, "room")
 }
 
 /// Whether a copy of a shared list that is gone has these items.
-fn is_copied(shared: SharedList<u32>, items: &[u32]) -> Result<bool, Fault> {
-    let copy = shared.copy()?;
+fn is_copied(rt: &impl Abort, shared: SharedList<u32>, items: &[u32]) -> bool {
+    let copy = shared.copy().expect(rt, "room");
     drop(shared);
-    Ok(copy.as_slice() == items && copy.len() == items.len() && copy.is_empty() == items.is_empty())
-}
-
-/// Whether two lists are the same once they are shared.
-fn is_same(alloc: Global, items: &[u32], others: &[u32]) -> Result<bool, Fault> {
-    let one = shared(alloc, items)?;
-    let other = shared(alloc, others)?;
-    Ok(one == other)
+    let has_items = copy.as_slice() == items;
+    let has_length = copy.len() == items.len() && copy.is_empty() == items.is_empty();
+    drop(copy);
+    has_items && has_length
 }
 
 #[test]
-fn shares_and_compares_items(rt: HostRuntime) -> Result<(), Fail> {
-    for (items, others, are_same) in LISTS {
-        let is_copied = is_copied(shared(rt.alloc(), items)?, items)?;
-        assert!(rt; is_copied, "{items:?}");
-        let is_same = is_same(rt.alloc(), items, others)?;
-        assert!(rt; is_same == are_same, "{items:?} and {others:?}");
+fn shares_and_compares_items(rt: HostRuntime) {
+    for (items, others, are_same) in &LISTS {
+        let one = shared(&rt, rt.alloc(), items);
+        let other = shared(&rt, rt.alloc(), others);
+        let is_compared = (one == other) == *are_same;
+        drop(other);
+        let is_copied = is_copied(&rt, one, items);
+        assert!(rt; is_copied, "a copy of {items:?}");
+        assert!(rt; is_compared, "{items:?} beside {others:?}");
     }
-    Ok(())
 }

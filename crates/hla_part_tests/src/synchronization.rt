@@ -1,29 +1,16 @@
-ghost use Rattle.std.specs.Prelude.{◌<◌, ◌≤◌};
-
 use crate::facts::check;
-use hla_base::{Fault, FederateNo, FederateSet, Notice, NoticeKind, SharedList};
+use crate::federates::pair;
+use hla_base::{FederateSet, Notice, NoticeKind, SharedList};
 use hla_synchronization::OpenPoints;
 use std::alloc::Global;
-use std::test::Fail;
-
-fn pair(first: FederateNo, second: FederateNo) -> FederateSet
-    requires first_some { 0 < first }
-    requires first_within { first ≤ 16 }
-    requires second_some { 0 < second }
-    requires second_within { second ≤ 16 }
-{
-    let mut members = FederateSet::new();
-    members.add(first);
-    members.add(second);
-    members
-}
+use std::process::Abort;
 
 /// Opens a point of each of these labels.
-fn open(alloc: Global, points: &mut OpenPoints, labels: &[&[u8]]) -> Result<(), Fault> {
+fn open(rt: &impl Abort, alloc: Global, points: &mut OpenPoints, labels: &[&[u8]]) {
     for label in labels {
-        points.open(alloc, SharedList::from_slice(alloc, label)?)?;
+        let label = SharedList::from_slice(alloc, label).expect(rt, "room");
+        points.open(alloc, label).expect(rt, "room");
     }
-    Ok(())
 }
 
 /// Whether notices are of this kind and of the points of these labels.
@@ -35,7 +22,8 @@ fn are_of(notices: &[Notice], kind: NoticeKind, labels: &[&[u8]]) -> bool {
     are_same
 }
 
-const ACHIEVED: [&str; 5] = [
+/// What is so of a point that is announced to federate 2, which achieves it.
+static ACHIEVED: [&str; 5] = [
     "a point is not achieved before it was announced",
     "it is by whom it was announced to",
     "it is not by another",
@@ -43,10 +31,10 @@ const ACHIEVED: [&str; 5] = [
     "it is not achieved twice",
 ];
 
-/// What is so of a point that is announced to federate 2, which achieves it.
-fn achieved(alloc: Global) -> Result<[bool; 5], Fault> {
+#[test]
+fn a_point_is_achieved_once_it_was_announced(rt: HostRuntime) {
     let mut points = OpenPoints::new();
-    open(alloc, &mut points, &[b"start"])?;
+    open(&rt, rt.alloc(), &mut points, &[b"start"]);
     let unannounced = points.may_achieve(2, b"start");
     points.announce(2, b"start");
     let announced = points.may_achieve(2, b"start");
@@ -54,10 +42,13 @@ fn achieved(alloc: Global) -> Result<[bool; 5], Fault> {
     let of_other = points.may_achieve(2, b"stop");
     points.achieve(2, b"start");
     let again = points.may_achieve(2, b"start");
-    Ok([!unannounced, announced, !to_other, !of_other, !again])
+    drop(points);
+    let facts = [!unannounced, announced, !to_other, !of_other, !again];
+    check(&rt, &ACHIEVED, &facts);
 }
 
-const CLOSED: [&str; 5] = [
+/// What is so of three points, of which federates 1 and 16 achieve the last and the first, and federate 1 the second.
+static CLOSED: [&str; 5] = [
     "points close in order of opening once all have achieved them",
     "the first is closed",
     "one that one has not achieved stays open",
@@ -65,16 +56,18 @@ const CLOSED: [&str; 5] = [
     "what one has achieved is closed once that one is alone",
 ];
 
-/// What is so of three points, of which federates 1 and 16 achieve the last and the first, and federate 1 the second.
-fn closed(alloc: Global) -> Result<[bool; 5], Fault> {
+#[test]
+fn points_close_once_all_have_achieved_them(rt: HostRuntime) {
     let mut points = OpenPoints::new();
-    open(alloc, &mut points, &[b"a", b"b", b"c"])?;
-    for federate in [1, 16] {
-        points.achieve(federate, b"c");
-        points.achieve(federate, b"a");
-    }
+    open(&rt, rt.alloc(), &mut points, &[b"a", b"b", b"c"]);
+    points.achieve(1, b"c");
+    points.achieve(1, b"a");
+    points.achieve(16, b"c");
+    points.achieve(16, b"a");
     points.achieve(1, b"b");
-    let closings = points.closings(alloc, pair(1, 16))?;
+    let closings = points.closings(rt.alloc(), pair(1, 16)).expect(&rt, "room");
+    let are_told = are_of(closings.as_slice(), NoticeKind::Synchronized, &[b"a", b"c"]);
+    drop(closings);
     points.close(pair(1, 16));
     let (a, b, c) = (
         points.is_open(b"a"),
@@ -82,54 +75,48 @@ fn closed(alloc: Global) -> Result<[bool; 5], Fault> {
         points.is_open(b"c"),
     );
     points.close(pair(1, 1));
-    Ok([
-        are_of(closings.as_slice(), NoticeKind::Synchronized, &[b"a", b"c"]),
-        !a,
-        b,
-        !c,
-        points.is_empty(),
-    ])
+    let are_closed = points.is_empty();
+    drop(points);
+    check(&rt, &CLOSED, &[are_told, !a, b, !c, are_closed]);
 }
 
-const TOLD: [&str; 3] = [
+/// What is so of two points that a newcomer is told of, in a copy, while they close.
+static TOLD: [&str; 3] = [
     "a newcomer is told nothing where no point is open",
     "no point is open that nobody has to achieve",
     "a newcomer is told of all that are open",
 ];
 
-/// What is so of two points that a newcomer is told of, in a copy, while they close.
-fn told(alloc: Global) -> Result<[bool; 3], Fault> {
+#[test]
+fn a_newcomer_is_told_of_the_open_points(rt: HostRuntime) {
     let mut points = OpenPoints::new();
-    let none = points.announcements(alloc)?.is_empty();
-    open(alloc, &mut points, &[b"a", b"b"])?;
-    let copy = points.copy(alloc)?;
+    let none = points.announcements(rt.alloc()).expect(&rt, "room");
+    let is_told_nothing = none.is_empty();
+    drop(none);
+    open(&rt, rt.alloc(), &mut points, &[b"a", b"b"]);
+    let copy = points.copy(rt.alloc()).expect(&rt, "room");
     points.close(FederateSet::new());
-    let told = copy.announcements(alloc)?;
-    Ok([
-        none,
-        points.is_empty(),
-        are_of(told.as_slice(), NoticeKind::Announced, &[b"a", b"b"]),
-    ])
+    let are_closed = points.is_empty();
+    drop(points);
+    let told = copy.announcements(rt.alloc()).expect(&rt, "room");
+    let are_told = are_of(told.as_slice(), NoticeKind::Announced, &[b"a", b"b"]);
+    drop(told);
+    drop(copy);
+    check(&rt, &TOLD, &[is_told_nothing, are_closed, are_told]);
 }
-
-const FULL: [&str; 2] = ["63 points may be joined by another", "64 are all"];
 
 /// What is so of 63 points, and of 64.
-fn full(alloc: Global) -> Result<[bool; 2], Fault> {
-    let mut points = OpenPoints::new();
-    for number in 0..63u8 {
-        open(alloc, &mut points, &[&[number]])?;
-    }
-    let before = points.is_full();
-    open(alloc, &mut points, &[b"@"])?;
-    Ok([!before, points.is_full()])
-}
+static FULL: [&str; 2] = ["63 points may be joined by another", "64 are all"];
 
 #[test]
-fn points_open_and_close(rt: HostRuntime) -> Result<(), Fail> {
-    check(&rt, &ACHIEVED, &achieved(rt.alloc())?);
-    check(&rt, &CLOSED, &closed(rt.alloc())?);
-    check(&rt, &TOLD, &told(rt.alloc())?);
-    check(&rt, &FULL, &full(rt.alloc())?);
-    Ok(())
+fn points_are_no_more_than_64(rt: HostRuntime) {
+    let mut points = OpenPoints::new();
+    for number in 0..63u8 {
+        open(&rt, rt.alloc(), &mut points, &[&[number]]);
+    }
+    let before = points.is_full();
+    open(&rt, rt.alloc(), &mut points, &[b"@"]);
+    let after = points.is_full();
+    drop(points);
+    check(&rt, &FULL, &[!before, after]);
 }

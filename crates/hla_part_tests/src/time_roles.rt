@@ -8,7 +8,8 @@ const TO_10: AdvanceRequest = AdvanceRequest {
     asked: 10,
 };
 
-const REGULATING: [&str; 12] = [
+/// What is so of a federate that regulates with a lookahead of 5 and is granted 10.
+static REGULATING: [&str; 12] = [
     "may begin to regulate",
     "is a regulator once it has asked",
     "may ask for no advance meanwhile",
@@ -23,8 +24,8 @@ const REGULATING: [&str; 12] = [
     "does not regulate once it has ceased",
 ];
 
-/// What is so of a federate that regulates with a lookahead of 5 and is granted 10.
-fn regulating() -> [bool; 12] {
+#[test]
+fn takes_and_leaves_the_role_of_a_regulator(rt: HostRuntime) {
     let mut state = TimeState::new();
     let fault = state.regulation_fault(5, 0, 5);
     state.regulate_from(5, 5);
@@ -39,7 +40,7 @@ fn regulating() -> [bool; 12] {
     state.set_lookahead(1);
     let kept = state.least_stamp();
     state.cease_regulation();
-    [
+    let facts = [
         fault.is_none(),
         is_regulator,
         pending == Some(Fault::EnableTimeRegulationPending),
@@ -52,7 +53,8 @@ fn regulating() -> [bool; 12] {
         lookahead.is_none(),
         kept == 15,
         state.unregulate_fault() == Some(Fault::TimeRegulationWasNotEnabled),
-    ]
+    ];
+    check(&rt, &REGULATING, &facts);
 }
 
 /// A request for the next event up to 20.
@@ -61,7 +63,8 @@ const NEXT_TO_20: AdvanceRequest = AdvanceRequest {
     asked: 20,
 };
 
-const CONSTRAINED: [&str; 13] = [
+/// What is so of a federate that is constrained, asks for the next event up to 20 and picks one at 7.
+static CONSTRAINED: [&str; 13] = [
     "has its order kept once it has asked",
     "may not ask again meanwhile",
     "is constrained once it has entered",
@@ -77,8 +80,8 @@ const CONSTRAINED: [&str; 13] = [
     "has it then",
 ];
 
-/// What is so of a federate that is constrained, asks for the next event up to 20 and picks one at 7.
-fn constrained() -> [bool; 13] {
+#[test]
+fn takes_and_leaves_the_role_of_one_constrained(rt: HostRuntime) {
     let mut state = TimeState::new();
     state.ask_constraint();
     let (is_kept, pending) = (state.is_order_kept(), state.constrain_fault());
@@ -94,7 +97,7 @@ fn constrained() -> [bool; 13] {
     state.cease_constraint();
     let (is_left, off) = (!state.is_constrained(), state.asynchronous_off_fault());
     state.set_asynchronous_delivery(true);
-    [
+    let facts = [
         is_kept,
         pending == Some(Fault::EnableTimeConstrainedPending),
         is_constrained,
@@ -108,11 +111,6 @@ fn constrained() -> [bool; 13] {
         off.is_some(),
         state.asynchronous_on_fault().is_some(),
         state.has_asynchronous_delivery(),
-    ]
-}
-
-#[test]
-fn takes_and_leaves_its_roles(rt: HostRuntime) {
-    check(&rt, &REGULATING, &regulating());
-    check(&rt, &CONSTRAINED, &constrained());
+    ];
+    check(&rt, &CONSTRAINED, &facts);
 }

@@ -1,7 +1,6 @@
-use hla_base::{FOREVER, Fault, Ticks};
+use hla_base::{FOREVER, Ticks};
 use hla_null_message::{Message, Wire};
-use std::alloc::Global;
-use std::test::Fail;
+use std::process::Abort;
 
 /// A message on a wire.
 enum Put {
@@ -18,7 +17,7 @@ struct Case {
     given: &'static [Put],
 }
 
-const CASES: [Case; 4] = [
+static CASES: [Case; 4] = [
     Case {
         name: "a null takes the place of one of its epoch",
         put: &[Put::Null(1, 6), Put::Null(1, 8)],
@@ -42,9 +41,9 @@ const CASES: [Case; 4] = [
 ];
 
 /// Puts messages on a wire.
-fn put_all(wire: &mut Wire, messages: &[Put]) -> Result<(), Fault> {
+fn put_all(rt: &impl Abort, wire: &mut Wire, messages: &[Put]) {
     for message in messages {
-        wire.reserve(1)?;
+        wire.reserve(1).expect(rt, "room");
         wire.put(match message {
             Put::Null(epoch, bound) => Message::Null {
                 epoch: *epoch,
@@ -53,40 +52,31 @@ fn put_all(wire: &mut Wire, messages: &[Put]) -> Result<(), Fault> {
             Put::Retraction(serial) => Message::Retraction(*serial),
         });
     }
-    Ok(())
-}
-
-/// Whether a wire gives this message next.
-fn gives(wire: &mut Wire, message: &Put) -> bool {
-    match (wire.take_first(), message) {
-        (Some(Message::Null { epoch, bound }), Put::Null(e, b)) => epoch == *e && bound == *b,
-        (Some(Message::Retraction(serial)), Put::Retraction(s)) => serial == *s,
-        _ => false,
-    }
 }
 
 /// Whether a wire gives these messages, and then nothing.
 fn gives_all(wire: &mut Wire, messages: &[Put]) -> bool {
+    let mut are_given = true;
     for message in messages {
-        if !gives(wire, message) {
-            return false;
-        }
+        let taken = wire.take_first();
+        let is_given = match (&taken, message) {
+            (Some(Message::Null { epoch, bound }), Put::Null(e, b)) => epoch == e && bound == b,
+            (Some(Message::Retraction(serial)), Put::Retraction(s)) => serial == s,
+            _ => false,
+        };
+        drop(taken);
+        are_given = are_given && is_given;
     }
-    wire.is_empty()
-}
-
-/// Whether a wire gives what it is to give of what is put on it.
-fn keeps(alloc: Global, case: &Case) -> Result<bool, Fault> {
-    let mut wire = Wire::new(alloc);
-    put_all(&mut wire, case.put)?;
-    Ok(gives_all(&mut wire, case.given))
+    are_given && wire.is_empty()
 }
 
 #[test]
-fn gives_what_was_put_and_of_nulls_the_newest(rt: HostRuntime) -> Result<(), Fail> {
+fn gives_what_was_put_and_of_nulls_the_newest(rt: HostRuntime) {
     for case in &CASES {
-        let is_kept = keeps(rt.alloc(), case)?;
+        let mut wire = Wire::new(rt.alloc());
+        put_all(&rt, &mut wire, case.put);
+        let is_kept = gives_all(&mut wire, case.given);
+        drop(wire);
         assert!(rt; is_kept, "{}", case.name);
     }
-    Ok(())
 }

@@ -5,4 +5,6 @@
 #[cfg(test)]
 mod files;
 #[cfg(test)]
+mod shelf;
+#[cfg(test)]
 mod words;

@@ -1,92 +1,106 @@
+//! What the words of a command line ask for.
+
 use hla_command_line::{WordsFault, parse};
 use hla_tasks::Task;
-use std::test::Fail;
+use std::alloc::Global;
+use std::process::Abort;
 
-/// That a script is played over a FED file.
-fn play(fed: &str) -> Task<'_> {
-    Task::Play { fed, script: "-" }
-}
+/// Words, and what they ask for; nothing where they are refused.
+type Row = (&'static [&'static str], Option<Task<'static>>);
 
-/// That a script is run over a FED file.
-fn run(is_watched: bool) -> Task<'static> {
-    Task::Run {
-        fed: "a.fed",
-        script: "-",
-        is_watched,
+const PLAY_INPUT: Task<'static> = Task::Play {
+    fed: "-",
+    script: "-",
+};
+
+const PLAY: Task<'static> = Task::Play {
+    fed: "a.fed",
+    script: "-",
+};
+
+const CHECK: Task<'static> = Task::Check {
+    fed: "a.fed",
+    script: "-",
+};
+
+const RUN: Task<'static> = Task::Run {
+    fed: "a.fed",
+    script: "-",
+    is_watched: false,
+};
+
+const WATCHED_RUN: Task<'static> = Task::Run {
+    fed: "a.fed",
+    script: "-",
+    is_watched: true,
+};
+
+const LIST: Task<'static> = Task::List { fed: "a.fed" };
+
+static ROWS: [Row; 22] = [
+    (&["hlaplay"], Some(PLAY_INPUT)),
+    (&["hlaplay", "play", "-", "-"], Some(PLAY_INPUT)),
+    (&["hlaplay", "play", "a.fed", "-"], Some(PLAY)),
+    (&["hlaplay", "play", "--", "a.fed", "-"], Some(PLAY)),
+    (&["hlaplay", "check", "a.fed", "-"], Some(CHECK)),
+    (&["hlaplay", "check", "--", "a.fed", "-"], Some(CHECK)),
+    (&["hlaplay", "run", "a.fed", "-"], Some(RUN)),
+    (&["hlaplay", "run", "--", "a.fed", "-"], Some(RUN)),
+    (
+        &["hlaplay", "run", "--monitor", "a.fed", "-"],
+        Some(WATCHED_RUN),
+    ),
+    (
+        &["hlaplay", "run", "a.fed", "-", "--monitor"],
+        Some(WATCHED_RUN),
+    ),
+    (&["hlaplay", "fed", "a.fed"], Some(LIST)),
+    (&["hlaplay", "play", "a.fed"], None),
+    (&["hlaplay", "play", "a.fed", "-b"], None),
+    (&["hlaplay", "play", "a", "b", "c"], None),
+    (&["hlaplay", "--help"], None),
+    (&["hlaplay", "check", "a.fed"], None),
+    (&["hlaplay", "run", "a.fed"], None),
+    (
+        &["hlaplay", "run", "a", "b", "--monitor", "--monitor"],
+        None,
+    ),
+    (&["hlaplay", "play", "a", "b", "--monitor"], None),
+    (&["hlaplay", "fed"], None),
+    (&["hlaplay", "fed", "a", "b"], None),
+    (&["hlaplay", "play", "--loud", "a", "b"], None),
+];
+
+/// How the help begins the line of each subcommand.
+static HELP: [&str; 4] = ["\n  play ", "\n  check ", "\n  run ", "\n  fed "];
+
+/// What words ask for, or what is told where they are refused.
+fn asked_by<'a>(rt: &impl Abort, alloc: Global, words: &'a [&'a str]) -> Result<Task<'a>, String> {
+    match parse(alloc, words) {
+        Ok(task) => Ok(task),
+        Err(WordsFault::Refused(error)) => {
+            let text = format!(in alloc; "{error}").expect(rt, "room");
+            drop(error);
+            Err(text)
+        }
+        Err(WordsFault::Memory) => panic!(rt; "no memory"),
     }
 }
 
 #[test]
-fn reads_the_command_line(rt: HostRuntime) {
-    let check = Task::Check {
-        fed: "a.fed",
-        script: "-",
-    };
-    let list = Task::List { fed: "a.fed" };
-    for (words, asked) in [
-        (["hlaplay"].as_slice(), play("-")),
-        (["hlaplay", "play", "-", "-"].as_slice(), play("-")),
-        (["hlaplay", "play", "a.fed", "-"].as_slice(), play("a.fed")),
-        (
-            ["hlaplay", "play", "--", "a.fed", "-"].as_slice(),
-            play("a.fed"),
-        ),
-        (["hlaplay", "check", "a.fed", "-"].as_slice(), check),
-        (["hlaplay", "check", "--", "a.fed", "-"].as_slice(), check),
-        (["hlaplay", "run", "a.fed", "-"].as_slice(), run(false)),
-        (
-            ["hlaplay", "run", "--", "a.fed", "-"].as_slice(),
-            run(false),
-        ),
-        (
-            ["hlaplay", "run", "--monitor", "a.fed", "-"].as_slice(),
-            run(true),
-        ),
-        (
-            ["hlaplay", "run", "a.fed", "-", "--monitor"].as_slice(),
-            run(true),
-        ),
-        (["hlaplay", "fed", "a.fed"].as_slice(), list),
-    ] {
-        assert!(rt;
-            matches!(&parse(rt.alloc(), words), Ok(task) if *task == asked),
-            "at {words:?}"
-        );
+fn reads_and_refuses_words(rt: HostRuntime) {
+    for (words, asked) in &ROWS {
+        let read = asked_by(&rt, rt.alloc(), words).ok();
+        assert!(rt; read == *asked, "at {words:?}");
     }
 }
 
 #[test]
-fn refuses_other_words(rt: HostRuntime) {
-    for words in [
-        ["hlaplay", "play", "a.fed"].as_slice(),
-        ["hlaplay", "play", "a.fed", "-b"].as_slice(),
-        ["hlaplay", "play", "a", "b", "c"].as_slice(),
-        ["hlaplay", "--help"].as_slice(),
-        ["hlaplay", "check", "a.fed"].as_slice(),
-        ["hlaplay", "run", "a.fed"].as_slice(),
-        ["hlaplay", "run", "a", "b", "--monitor", "--monitor"].as_slice(),
-        ["hlaplay", "play", "a", "b", "--monitor"].as_slice(),
-        ["hlaplay", "fed"].as_slice(),
-        ["hlaplay", "fed", "a", "b"].as_slice(),
-        ["hlaplay", "play", "--loud", "a", "b"].as_slice(),
-    ] {
-        assert!(rt;
-            matches!(&parse(rt.alloc(), words), Err(WordsFault::Refused(_))),
-            "at {words:?}"
-        );
+fn helps_with_each_subcommand(rt: HostRuntime) {
+    let refused = asked_by(&rt, rt.alloc(), &["hlaplay", "--help"]).err();
+    let text = refused.expect(&rt, "no help");
+    for line in &HELP {
+        assert!(rt; text.as_str().contains(*line), "at {line:?}");
     }
-}
-
-#[test]
-fn helps_with_each_subcommand(rt: HostRuntime) -> Result<(), Fail> {
-    let alloc = rt.alloc();
-    let Err(WordsFault::Refused(error)) = parse(alloc, &["hlaplay", "--help"]) else {
-        panic!(rt; "no help");
-    };
-    let text = format!(in alloc; "{error}")?;
-    for name in ["play", "check", "run", "fed"] {
-        let line = format!(in alloc; "\n  {name} ")?;
-        assert!(rt; text.as_str().contains(line.as_str()), "at {name}");
-    }
-    Ok(())
+    drop(text);
 }

@@ -53,7 +53,7 @@ pub enum Scene {
 /// A scene with its name, and how many records its history may hold.
 type Row = (&'static str, Scene, usize);
 
-const ON_ONE_THREAD: [Row; 17] = [
+static ON_ONE_THREAD: [Row; 17] = [
     ("full at two", Scene::Closed(Run::FullAtTwo), 2),
     (
         "failing ambassador",

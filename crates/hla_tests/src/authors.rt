@@ -1,9 +1,8 @@
 //! Random scripts in the making, and their transcripts beside the books of all services.
 
 use hla_service_books::{Tally, read_services};
-use std::alloc::{AllocError, Global};
+use std::alloc::Global;
 use std::process::Abort;
-use std::test::Fail;
 
 /// A word of a line that stands for one of some texts.
 pub struct Word {
@@ -65,74 +64,63 @@ impl Author {
     }
 
     /// Adds a time that is at least so far ahead of the present, and less than so much further.
-    fn add_time(&mut self, least: u64, more: u64) -> Result<(), AllocError> {
+    fn add_time(&mut self, rt: &impl Abort, least: u64, more: u64) {
         let ahead = self.below(more).saturating_add(least);
         let time = self.now.saturating_add(ahead);
-        write!(self.script, "{time}")
+        write!(self.script, "{time}").expect(rt, "room");
     }
 
     /// Adds a word, or what it stands for.
-    fn add_word(&mut self, word: &str) -> Result<(), AllocError> {
+    fn add_word(&mut self, rt: &impl Abort, word: &str) {
         match word {
-            "TIME" => self.add_time(0, 6),
-            "LATER" => self.add_time(3, 6),
+            "TIME" => self.add_time(rt, 0, 6),
+            "LATER" => self.add_time(rt, 3, 6),
             "@STAMP" => {
-                self.script.push_str("@")?;
-                self.add_time(1, 12)
+                self.script.push_str("@").expect(rt, "room");
+                self.add_time(rt, 1, 12);
             }
             "HANDLE" => {
                 let sender = self.pick(&["1", "1", "1", "2"]);
                 let sent = self.now.saturating_add(self.now).saturating_add(3);
                 let serial = self.below(sent).max(1);
-                write!(self.script, "{sender}.{serial}")
+                write!(self.script, "{sender}.{serial}").expect(rt, "room");
             }
             _ => {
                 let text = self.text_of(word);
-                self.script.push_str(text)
+                self.script.push_str(text).expect(rt, "room");
             }
         }
     }
 
     /// Adds a line, with a text for each word that stands for some.
-    fn add_line(&mut self, line: &str) -> Result<(), AllocError> {
+    fn add_line(&mut self, rt: &impl Abort, line: &str) {
         for word in line.split(' ') {
-            self.add_word(word)?;
-            self.script.push_str(" ")?;
+            self.add_word(rt, word);
+            self.script.push_str(" ").expect(rt, "room");
         }
-        self.script.push_str("\n")
+        self.script.push_str("\n").expect(rt, "room");
     }
 
     /// Adds the lines of a text.
-    pub fn add_lines(&mut self, lines: &str) -> Result<(), AllocError> {
+    pub fn add_lines(&mut self, rt: &impl Abort, lines: &str) {
         for line in lines.lines() {
-            self.add_line(line)?;
+            self.add_line(rt, line);
         }
-        Ok(())
     }
 
     /// Adds so many of some texts, as they are picked.
-    pub fn add_picked(
-        &mut self,
-        texts: &'static [&'static str],
-        count: u32,
-    ) -> Result<(), AllocError> {
+    pub fn add_picked(&mut self, rt: &impl Abort, texts: &'static [&'static str], count: u32) {
         for _ in 0..count {
             let lines = self.pick(texts);
-            self.add_lines(lines)?;
+            self.add_lines(rt, lines);
         }
-        Ok(())
     }
 }
 
 /// How often the transcript of a script tries the laws; it must be by the books.
-pub fn tally_of(
-    rt: &impl Abort,
-    alloc: Global,
-    script: &str,
-    transcript: &str,
-) -> Result<Tally, Fail> {
-    match read_services(alloc, script, transcript)? {
-        Some(tally) => Ok(tally),
+pub fn tally_of(rt: &impl Abort, alloc: Global, script: &str, transcript: &str) -> Tally {
+    match read_services(alloc, script, transcript).expect(rt, "room") {
+        Some(tally) => tally,
         None => panic!(rt; "not by the books: {script}"),
     }
 }

@@ -3,9 +3,8 @@
 use crate::forged_orders::ORDERS;
 use crate::forged_points::POINTS;
 use hla_service_books::read_services;
-use std::alloc::{AllocError, Global};
+use std::alloc::Global;
 use std::process::Abort;
-use std::test::Fail;
 
 /// A script and its transcript, and forgeries: another answer in place of one, by the number of its line.
 pub struct Scene {
@@ -15,33 +14,34 @@ pub struct Scene {
 }
 
 impl Scene {
-    /// Writes the transcript with another answer in place of one, by the number of its line.
-    fn write_with(&self, text: &mut String, number: u32, answer: &str) -> Result<(), AllocError> {
+    /// The transcript with another answer in place of one, by the number of its line.
+    fn transcript_with(&self, rt: &impl Abort, alloc: Global, number: u32, answer: &str) -> String {
+        let mut text = String::new(alloc);
         let mut at = 0u32;
         for line in self.transcript.lines() {
             at = at.saturating_add(1);
             let said = if at == number { answer } else { line };
-            write!(text, "{at} {said}\n")?;
+            write!(text, "{at} {said}\n").expect(rt, "room");
         }
-        Ok(())
+        text
     }
 
     /// Whether the transcript is by the books with another answer in place of one, by the number of its line; 0 replaces none.
-    fn is_taken_with(&self, alloc: Global, number: u32, answer: &str) -> Result<bool, AllocError> {
-        let mut transcript = String::new(alloc);
-        self.write_with(&mut transcript, number, answer)?;
-        Ok(read_services(alloc, self.script, transcript.as_str())?.is_some())
+    fn is_taken_with(&self, rt: &impl Abort, alloc: Global, number: u32, answer: &str) -> bool {
+        let transcript = self.transcript_with(rt, alloc, number, answer);
+        let tally = read_services(alloc, self.script, transcript.as_str());
+        drop(transcript);
+        tally.expect(rt, "room").is_some()
     }
 
     /// That the books take the transcript, and none of the forgeries.
-    fn check(&self, rt: &impl Abort, alloc: Global) -> Result<(), AllocError> {
-        let is_taken = self.is_taken_with(alloc, 0, "")?;
+    fn check(&self, rt: &impl Abort, alloc: Global) {
+        let is_taken = self.is_taken_with(rt, alloc, 0, "");
         assert!(rt; is_taken, "not taken: {}", self.script);
         for (number, answer) in self.forgeries {
-            let is_taken = self.is_taken_with(alloc, *number, answer)?;
+            let is_taken = self.is_taken_with(rt, alloc, *number, answer);
             assert!(rt; !is_taken, "taken: {number} {answer} of {}", self.script);
         }
-        Ok(())
     }
 }
 
@@ -58,15 +58,14 @@ const SCENES: [&Scene; 8] = [
 ];
 
 #[test]
-fn refuses_each_forgery(rt: HostRuntime) -> Result<(), Fail> {
+fn refuses_each_forgery(rt: HostRuntime) {
     for scene in SCENES {
-        scene.check(&rt, rt.alloc())?;
+        scene.check(&rt, rt.alloc());
     }
-    Ok(())
 }
 
 /// Transcripts of the script `create`, and whether the books take them.
-const NUMBERED: [(&str, bool); 5] = [
+static NUMBERED: [(&str, bool); 5] = [
     ("", false),
     ("2 ok\n", false),
     ("ok\n", false),
@@ -75,12 +74,11 @@ const NUMBERED: [(&str, bool); 5] = [
 ];
 
 #[test]
-fn refuses_lines_of_other_numbers(rt: HostRuntime) -> Result<(), Fail> {
-    for (transcript, is_taken) in NUMBERED {
-        let tally = read_services(rt.alloc(), "create\n", transcript)?;
-        assert!(rt; tally.is_some() == is_taken, "{transcript:?}");
+fn refuses_lines_of_other_numbers(rt: HostRuntime) {
+    for (transcript, is_taken) in &NUMBERED {
+        let tally = read_services(rt.alloc(), "create\n", transcript).expect(&rt, "room");
+        assert!(rt; tally.is_some() == *is_taken, "{transcript:?}");
     }
-    Ok(())
 }
 
 /// A retracts two events, of which B has been given one in a flush.

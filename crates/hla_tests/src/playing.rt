@@ -4,18 +4,17 @@ use hla_base::{List, MAX_HISTORY, Plain};
 use hla_machine::Record;
 use hla_part_tests::FED;
 use hla_script::{PlayFault, Watched, play};
-use std::alloc::{AllocError, Global};
+use std::alloc::Global;
 use std::io;
 use std::io::Write;
 use std::process::Abort;
-use std::test::Fail;
 
 /// What a script prints over `FED`.
-pub fn transcript(alloc: Global, script: &[u8]) -> Result<String, Fail> {
+pub fn transcript(rt: &impl Abort, alloc: Global, script: &[u8]) -> String {
     let mut out = Vec::new(alloc);
-    let records = play(alloc, FED.as_bytes(), script, &mut Watched::new(&mut out))?;
-    drop(records);
-    Ok(String::from_utf8(out)?)
+    let played = play(alloc, FED.as_bytes(), script, &mut Watched::new(&mut out));
+    drop(played.expect(rt, "a script that is played"));
+    String::from_utf8(out).expect(rt, "a text")
 }
 
 /// A script of so many times the same item, and how its transcript begins and ends.
@@ -32,7 +31,7 @@ struct Repeated {
 /// The beginning of a script whose last line sends a value.
 const SENDING: &str = "create\njoin A\njoin B\nA publishInteraction Hit\nA send Hit Force=";
 
-const REPEATED: [Repeated; 6] = [
+static REPEATED: [Repeated; 6] = [
     Repeated {
         name: "creates sixty-four times",
         head: "",
@@ -99,50 +98,48 @@ const REPEATED: [Repeated; 6] = [
 ];
 
 impl Repeated {
-    fn write(&self, script: &mut String) -> Result<(), AllocError> {
-        script.push_str(self.head)?;
-        for _ in 0..self.count {
-            script.push_str(self.item)?;
-        }
-        script.push_str(self.tail)
-    }
-
-    fn transcript(&self, alloc: Global) -> Result<String, Fail> {
+    fn script(&self, rt: &impl Abort, alloc: Global) -> String {
         let mut script = String::new(alloc);
-        self.write(&mut script)?;
-        transcript(alloc, script.as_bytes())
+        script.push_str(self.head).expect(rt, "room");
+        for _ in 0..self.count {
+            script.push_str(self.item).expect(rt, "room");
+        }
+        script.push_str(self.tail).expect(rt, "room");
+        script
     }
 }
 
 #[test]
-fn keeps_the_limits(rt: HostRuntime) -> Result<(), Fail> {
+fn keeps_the_limits(rt: HostRuntime) {
     for repeated in &REPEATED {
-        let text = repeated.transcript(rt.alloc())?;
+        let script = repeated.script(&rt, rt.alloc());
+        let text = transcript(&rt, rt.alloc(), script.as_bytes());
+        drop(script);
         let is_right = text.as_str().starts_with(repeated.first)
             && text.as_str().ends_with(repeated.last);
+        drop(text);
         assert!(rt; is_right, "{}", repeated.name);
     }
-    Ok(())
 }
 
-/// The records of a script of nine lines.
-fn nine_records(alloc: Global) -> Result<List<Record>, PlayFault> {
-    play(
-        alloc,
-        FED.as_bytes(),
-        b"create\ncreate\njoin A\njoin B\nA publishInteraction Hit\nB subscribeInteraction Hit\nA send Hit Force=7\ncarry A B\nB tick\n",
-        &mut Watched::new(io::sink()),
-    )
-}
+/// A script of nine lines, each of which makes a record.
+const NINE_LINES: &[u8] =
+    b"create\ncreate\njoin A\njoin B\nA publishInteraction Hit\nB subscribeInteraction Hit\nA send Hit Force=7\ncarry A B\nB tick\n";
 
 #[test]
-fn copies_its_records(rt: HostRuntime) -> Result<(), Fail> {
-    let records = nine_records(rt.alloc())?;
-    let copy = records.copy()?;
+fn copies_its_records(rt: HostRuntime) {
+    let mut out = Watched::new(io::sink());
+    let records = play(rt.alloc(), FED.as_bytes(), NINE_LINES, &mut out).expect(&rt, "records");
+    let copy = records.copy().expect(&rt, "a copy");
     let none: List<Record> = List::new(rt.alloc());
-    let is_same = [copy.is_same(&records), copy.is_same(&none)];
-    assert!(rt; (records.len(), is_same) == (9, [true, false]));
-    Ok(())
+    let (is_same, is_none) = (copy.is_same(&records), copy.is_same(&none));
+    let count = records.len();
+    drop(none);
+    drop(copy);
+    drop(records);
+    assert!(rt; count == 9, "{count} records");
+    assert!(rt; is_same, "a copy is the same");
+    assert!(rt; !is_none, "a copy is not the same as no records");
 }
 
 /// A FED file and a script, and which of them is refused, in which line and by which name; or `played`, with how many records.
@@ -152,7 +149,7 @@ struct Answered {
     answer: (&'static str, usize, &'static str),
 }
 
-const ANSWERED: [Answered; 3] = [
+static ANSWERED: [Answered; 3] = [
     Answered {
         fed: b"(FED\n(objects\n(class Ob",
         script: b"frobnicate",
@@ -172,12 +169,15 @@ const ANSWERED: [Answered; 3] = [
 
 impl Answered {
     fn answer(&self, alloc: Global, out: &mut Vec<u8>) -> (&'static str, usize, &'static str) {
-        match play(alloc, self.fed, self.script, &mut Watched::new(out)) {
+        let played = play(alloc, self.fed, self.script, &mut Watched::new(out));
+        let answer = match &played {
             Ok(records) => ("played", records.len(), ""),
             Err(PlayFault::Fed(fault)) => ("fed", fault.line, fault.kind.name()),
             Err(PlayFault::Script(fault)) => ("script", fault.line, fault.kind.name()),
             Err(_) => ("stopped", 0, ""),
-        }
+        };
+        drop(played);
+        answer
     }
 }
 
@@ -186,7 +186,11 @@ fn tests_the_fed_file_first(rt: HostRuntime) {
     for answered in &ANSWERED {
         let mut out = Vec::new(rt.alloc());
         let answer = answered.answer(rt.alloc(), &mut out);
-        assert_eq!(rt; (answer, out.len()), (answered.answer, 0));
+        let is_silent = out.is_empty();
+        drop(out);
+        let (what, line, name) = answer;
+        assert!(rt; answer == answered.answer, "{what}, line {line}: {name}");
+        assert!(rt; is_silent, "{what}, line {line}: something is written");
     }
 }
 
@@ -215,19 +219,29 @@ impl Write for Narrow {
 /// How many records a script of three lines has that is printed to a narrow writer; none where that fails.
 fn count_narrow(rt: &impl Abort, alloc: Global, out: &mut Narrow) -> Option<usize> {
     let script = b"create\njoin A\ncreate".as_slice();
-    match play(alloc, FED.as_bytes(), script, &mut Watched::new(out)) {
+    let played = play(alloc, FED.as_bytes(), script, &mut Watched::new(out));
+    let count = match &played {
         Ok(records) => Some(records.len()),
         Err(PlayFault::Write) => None,
         Err(_) => panic!(rt; "refused"),
-    }
+    };
+    drop(played);
+    count
 }
+
+/// For how many bytes a narrow writer has room, how many records are counted then, and how many bytes it takes.
+static ROOMS: [(usize, Option<usize>, usize); 2] = [(1000, Some(3), 55), (8, None, 8)];
 
 #[test]
 fn writes_all_or_says_so(rt: HostRuntime) {
-    for (room, count, taken) in [(1000, Some(3), 55), (8, None, 8)] {
-        let mut out = Narrow { taken: 0, room };
+    for (room, count, taken) in &ROOMS {
+        let mut out = Narrow {
+            taken: 0,
+            room: *room,
+        };
         let counted = count_narrow(&rt, rt.alloc(), &mut out);
-        assert!(rt; counted == count, "with room for {room}");
-        assert_eq!(rt; out.taken, taken, "with room for {room}");
+        let written = out.taken;
+        assert!(rt; counted == *count, "counted with room for {room}");
+        assert!(rt; written == *taken, "{written} bytes with room for {room}");
     }
 }

@@ -3,10 +3,9 @@
 use crate::authors::{Author, Word, tally_of};
 use crate::playing::transcript;
 use hla_service_books::Tally;
-use std::alloc::{AllocError, Global};
+use std::alloc::Global;
 use std::ops::Range;
 use std::process::Abort;
-use std::test::Fail;
 
 /// The least callbacks that the scripts of a range tell.
 const LEAST_TOLD: u32 = 150;
@@ -25,7 +24,7 @@ A register Car
 carry A B";
 
 /// Lines that let others succeed.
-const DECLARATIONS: &[&str] = &[
+static DECLARATIONS: &[&str] = &[
     "FEDERATE publishObject Car OWNED",
     "FEDERATE publishObject Car OWNED",
     "FEDERATE subscribeObject Car SHOWN",
@@ -38,7 +37,7 @@ const DECLARATIONS: &[&str] = &[
 ];
 
 /// Lines of all kinds, with those that mostly succeed more than once.
-const LINES: &[&str] = &[
+static LINES: &[&str] = &[
     "FEDERATE tick",
     "FEDERATE tick",
     "FEDERATE tick",
@@ -103,7 +102,7 @@ create
 join FEDERATE";
 
 /// What the words in capitals stand for.
-const WORDS: &[Word] = &[
+static WORDS: &[Word] = &[
     Word {
         word: "FEDERATE",
         texts: &["A", "A", "B", "B", "C"],
@@ -161,69 +160,70 @@ const WORDS: &[Word] = &[
 ];
 
 /// Adds the lines of a seed, some thirty.
-fn write(author: &mut Author, seed: u64) -> Result<(), AllocError> {
-    author.add_lines(OPENING)?;
+fn write(rt: &impl Abort, author: &mut Author, seed: u64) {
+    author.add_lines(rt, OPENING);
     if seed % 2 == 1 {
-        author.add_lines(SETTING)?;
+        author.add_lines(rt, SETTING);
     }
-    author.add_picked(DECLARATIONS, 9)?;
-    author.add_picked(LINES, 24)?;
+    author.add_picked(rt, DECLARATIONS, 9);
+    author.add_picked(rt, LINES, 24);
     if seed % 4 == 0 {
-        author.add_lines(ENDING)?;
+        author.add_lines(rt, ENDING);
     }
-    Ok(())
 }
 
 /// Plays a script up to each of its lines, which must print what its transcript begins with, and up to the last all of it.
-fn check_parts(rt: &impl Abort, alloc: Global, script: &str, whole: &str) -> Result<(), Fail> {
-    let script = script.as_bytes();
+fn check_parts(rt: &impl Abort, alloc: Global, script: &[u8], whole: &str) {
     let mut printed = 0;
     for (at, byte) in script.iter().enumerate() {
         if *byte == b'\n' {
-            let part = transcript(alloc, &script[..at + 1])?;
-            assert!(rt; whole.starts_with(part.as_str()));
+            let part = transcript(rt, alloc, &script[..at + 1]);
+            let is_beginning = whole.starts_with(part.as_str());
             printed = part.len();
+            drop(part);
+            assert!(rt; is_beginning, "not so up to byte {at}: {whole}");
         }
     }
-    assert_eq!(rt; printed, whole.len());
-    Ok(())
+    assert!(rt; printed == whole.len(), "only {printed} bytes of {whole}");
 }
 
 /// Plays a script, and then up to each of its lines. Answers how often its transcript tried the laws.
-fn check_script(rt: &impl Abort, alloc: Global, script: &str) -> Result<Tally, Fail> {
-    let whole = transcript(alloc, script.as_bytes())?;
-    check_parts(rt, alloc, script, whole.as_str())?;
-    tally_of(rt, alloc, script, whole.as_str())
+fn check_script(rt: &impl Abort, alloc: Global, script: &str) -> Tally {
+    let whole = transcript(rt, alloc, script.as_bytes());
+    check_parts(rt, alloc, script.as_bytes(), whole.as_str());
+    let tally = tally_of(rt, alloc, script, whole.as_str());
+    drop(whole);
+    tally
 }
 
 /// Checks the scripts of some seeds, in which the federates must be told of something often enough for the books to be tried.
-fn check_seeds(rt: &impl Abort, alloc: Global, seeds: Range<u64>) -> Result<(), Fail> {
+fn check_seeds(rt: &impl Abort, alloc: Global, seeds: Range<u64>) {
     let mut all = Tally::new();
     for seed in seeds {
         let mut author = Author::new(alloc, WORDS, seed);
-        write(&mut author, seed)?;
-        all.add(check_script(rt, alloc, author.script())?);
+        write(rt, &mut author, seed);
+        all.add(check_script(rt, alloc, author.script()));
+        drop(author);
     }
     assert!(rt; all.told >= LEAST_TOLD, "only {} callbacks", all.told);
-    Ok(())
 }
 
 #[test]
-fn plays_prefixes_of_the_first_scripts(rt: HostRuntime) -> Result<(), Fail> {
-    check_seeds(&rt, rt.alloc(), 0..250)
+fn plays_prefixes_of_the_first_scripts(rt: HostRuntime) {
+    check_seeds(&rt, rt.alloc(), 0..250);
 }
 
 #[test]
-fn plays_prefixes_of_the_second_scripts(rt: HostRuntime) -> Result<(), Fail> {
-    check_seeds(&rt, rt.alloc(), 250..500)
+fn plays_prefixes_of_the_second_scripts(rt: HostRuntime) {
+    check_seeds(&rt, rt.alloc(), 250..500);
 }
 
 #[test]
-fn plays_prefixes_of_the_third_scripts(rt: HostRuntime) -> Result<(), Fail> {
-    check_seeds(&rt, rt.alloc(), 500..750)
+fn plays_prefixes_of_the_third_scripts(rt: HostRuntime) {
+    check_seeds(&rt, rt.alloc(), 500..750);
 }
 
 #[test]
-fn plays_prefixes_of_the_fourth_scripts(rt: HostRuntime) -> Result<(), Fail> {
-    check_seeds(&rt, rt.alloc(), 750..1000)
+fn plays_prefixes_of_the_fourth_scripts(rt: HostRuntime) {
+    check_seeds(&rt, rt.alloc(), 750..1000);
 }

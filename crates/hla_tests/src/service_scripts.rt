@@ -3,13 +3,12 @@
 use crate::authors::{Author, Word, tally_of};
 use crate::playing::transcript;
 use hla_service_books::Tally;
-use std::alloc::{AllocError, Global};
+use std::alloc::Global;
 use std::ops::Range;
 use std::process::Abort;
-use std::test::Fail;
 
 /// The laws that scripts try.
-const LAWS: [&str; 10] = [
+static LAWS: [&str; 10] = [
     "picked",
     "flushed",
     "granted",
@@ -23,11 +22,11 @@ const LAWS: [&str; 10] = [
 ];
 
 /// How often the scripts of a range must try each of `LAWS` at least.
-const OF_TIME: [u32; 10] = [40, 40, 100, 15, 5, 8, 60, 0, 0, 0];
+static OF_TIME: [u32; 10] = [40, 40, 100, 15, 5, 8, 60, 0, 0, 0];
 
-const OF_ORDERS: [u32; 10] = [20, 0, 0, 0, 0, 0, 30, 400, 0, 0];
+static OF_ORDERS: [u32; 10] = [20, 0, 0, 0, 0, 0, 30, 400, 0, 0];
 
-const OF_POINTS: [u32; 10] = [0, 0, 0, 0, 0, 0, 0, 0, 100, 200];
+static OF_POINTS: [u32; 10] = [0, 0, 0, 0, 0, 0, 0, 0, 100, 200];
 
 /// How every script begins: A, B and C send hits to one another, and B sees A's car.
 const SETTING: &str = "create
@@ -65,7 +64,7 @@ B constrain
 B tick";
 
 /// What happens most: something is sent, taken back, asked for, announced, carried and told.
-const COMMON: &[&str] = &[
+static COMMON: &[&str] = &[
     "A send Hit Force=7 @STAMP
 A send Hit @STAMP
 carry A B",
@@ -141,7 +140,7 @@ FEDERATE tick",
 ];
 
 /// What happens now and then: changes of roles, queries, and all other words.
-const RARE: &[&str] = &[
+static RARE: &[&str] = &[
     "announce A
 A unregulate
 A regulate LATER LOOKAHEAD
@@ -209,7 +208,7 @@ destroy",
 ];
 
 /// What happens where orders change: messages go before and after, of the object or the class and of others.
-const ORDERS: &[&str] = &[
+static ORDERS: &[&str] = &[
     "A update 1 Car VALUES @STAMP
 A attributeOrder 1 Car ORDER CHANGED
 A update 1 Car VALUES @STAMP
@@ -254,7 +253,7 @@ FEDERATE send Memo Text=a Extra=b @STAMP",
 const FIRST_OF_ORDERS: u64 = 3600;
 
 /// What happens where the federation synchronizes: points open, close and open again, and federates join and resign meanwhile.
-const POINTS: &[&str] = &[
+static POINTS: &[&str] = &[
     "FEDERATE syncRegister LABEL
 FEDERATE tick",
     "FEDERATE syncAchieve LABEL
@@ -304,7 +303,7 @@ B syncAchieve LABEL",
 const FIRST_OF_POINTS: u64 = 3720;
 
 /// What the words in capitals stand for.
-const WORDS: &[Word] = &[
+static WORDS: &[Word] = &[
     Word {
         word: "FEDERATE",
         texts: &["A", "A", "B", "B", "B", "C", "C", "C", "D"],
@@ -389,35 +388,34 @@ fn scenes_at(seed: u64, place: u64) -> &'static [&'static str] {
 }
 
 /// Adds the setting of a seed, and thirty-two things that happen.
-fn write(author: &mut Author, seed: u64) -> Result<(), AllocError> {
-    author.add_lines(SETTING)?;
-    author.add_lines(match seed % 3 {
-        0 => CONSTRAINED,
-        1 => BOTH,
-        _ => "",
-    })?;
+fn write(rt: &impl Abort, author: &mut Author, seed: u64) {
+    author.add_lines(rt, SETTING);
+    author.add_lines(
+        rt,
+        match seed % 3 {
+            0 => CONSTRAINED,
+            1 => BOTH,
+            _ => "",
+        },
+    );
     for place in 0..32u64 {
         author.now = place / 2;
-        author.add_picked(scenes_at(seed, place), 1)?;
+        author.add_picked(rt, scenes_at(seed, place), 1);
     }
-    Ok(())
 }
 
-/// Plays a script, and answers how often its transcript tried the laws.
-fn check_script(rt: &impl Abort, alloc: Global, script: &str) -> Result<Tally, Fail> {
-    let played = transcript(alloc, script.as_bytes())?;
-    tally_of(rt, alloc, script, played.as_str())
-}
-
-/// Checks the scripts of some seeds, and answers how often they tried the laws.
-fn tally_scripts(rt: &impl Abort, alloc: Global, seeds: Range<u64>) -> Result<Tally, Fail> {
+/// Plays the scripts of some seeds, and answers how often their transcripts tried the laws.
+fn tally_scripts(rt: &impl Abort, alloc: Global, seeds: Range<u64>) -> Tally {
     let mut all = Tally::new();
     for seed in seeds {
         let mut author = Author::new(alloc, WORDS, seed);
-        write(&mut author, seed)?;
-        all.add(check_script(rt, alloc, author.script())?);
+        write(rt, &mut author, seed);
+        let played = transcript(rt, alloc, author.script().as_bytes());
+        all.add(tally_of(rt, alloc, author.script(), played.as_str()));
+        drop(played);
+        drop(author);
     }
-    Ok(all)
+    all
 }
 
 /// How often each of `LAWS` was tried.
@@ -437,60 +435,46 @@ fn counts(tally: &Tally) -> [u32; 10] {
 }
 
 /// Checks the scripts of some seeds, which must try each law often enough.
-fn check_seeds(
-    rt: &impl Abort,
-    alloc: Global,
-    seeds: Range<u64>,
-    least: &[u32; 10],
-) -> Result<(), Fail> {
-    let counts = counts(&tally_scripts(rt, alloc, seeds)?);
+fn check_seeds(rt: &impl Abort, alloc: Global, seeds: Range<u64>, least: &[u32; 10]) {
+    let counts = counts(&tally_scripts(rt, alloc, seeds));
     for (law, (count, least)) in LAWS.iter().zip(counts.iter().zip(least)) {
         assert!(rt; count >= least, "only {count} {law}");
     }
-    Ok(())
 }
 
 #[test]
-fn keeps_the_books_of_the_first_scripts(rt: HostRuntime) -> Result<(), Fail> {
-    check_seeds(&rt, rt.alloc(), 3000..3120, &OF_TIME)
+fn keeps_the_books_of_the_first_scripts(rt: HostRuntime) {
+    check_seeds(&rt, rt.alloc(), 3000..3120, &OF_TIME);
 }
 
 #[test]
-fn keeps_the_books_of_the_second_scripts(rt: HostRuntime) -> Result<(), Fail> {
-    check_seeds(&rt, rt.alloc(), 3120..3240, &OF_TIME)
+fn keeps_the_books_of_the_second_scripts(rt: HostRuntime) {
+    check_seeds(&rt, rt.alloc(), 3120..3240, &OF_TIME);
 }
 
 #[test]
-fn keeps_the_books_of_the_third_scripts(rt: HostRuntime) -> Result<(), Fail> {
-    check_seeds(&rt, rt.alloc(), 3240..3360, &OF_TIME)
+fn keeps_the_books_of_the_third_scripts(rt: HostRuntime) {
+    check_seeds(&rt, rt.alloc(), 3240..3360, &OF_TIME);
 }
 
 #[test]
-fn keeps_the_books_of_the_fourth_scripts(rt: HostRuntime) -> Result<(), Fail> {
-    check_seeds(&rt, rt.alloc(), 3360..3480, &OF_TIME)
+fn keeps_the_books_of_the_fourth_scripts(rt: HostRuntime) {
+    check_seeds(&rt, rt.alloc(), 3360..3480, &OF_TIME);
 }
 
 #[test]
-fn keeps_the_books_of_the_fifth_scripts(rt: HostRuntime) -> Result<(), Fail> {
-    check_seeds(&rt, rt.alloc(), 3480..3600, &OF_TIME)
+fn keeps_the_books_of_the_fifth_scripts(rt: HostRuntime) {
+    check_seeds(&rt, rt.alloc(), 3480..3600, &OF_TIME);
 }
 
 #[test]
-fn keeps_the_books_where_orders_change(rt: HostRuntime) -> Result<(), Fail> {
-    check_seeds(
-        &rt,
-        rt.alloc(),
-        FIRST_OF_ORDERS..FIRST_OF_ORDERS + 120,
-        &OF_ORDERS,
-    )
+fn keeps_the_books_where_orders_change(rt: HostRuntime) {
+    let seeds = FIRST_OF_ORDERS..FIRST_OF_ORDERS + 120;
+    check_seeds(&rt, rt.alloc(), seeds, &OF_ORDERS);
 }
 
 #[test]
-fn keeps_the_books_where_the_federation_synchronizes(rt: HostRuntime) -> Result<(), Fail> {
-    check_seeds(
-        &rt,
-        rt.alloc(),
-        FIRST_OF_POINTS..FIRST_OF_POINTS + 120,
-        &OF_POINTS,
-    )
+fn keeps_the_books_where_the_federation_synchronizes(rt: HostRuntime) {
+    let seeds = FIRST_OF_POINTS..FIRST_OF_POINTS + 120;
+    check_seeds(&rt, rt.alloc(), seeds, &OF_POINTS);
 }

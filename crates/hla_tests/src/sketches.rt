@@ -1,12 +1,13 @@
 //! Steps and answers as constant tables hold them, and what is made of them.
 
 use hla_base::{
-    ClassNo, EventHandle, Fault, FederateNo, List, ObjectNo, Serial, SharedList, Ticks,
+    ClassNo, EventHandle, FederateNo, HandleValuePair, List, ObjectNo, Serial, SharedList, Ticks,
 };
 use hla_callbacks::{Callback, Delivery};
 use hla_catalogue::Order;
 use hla_machine::{Answer, Carried, Service, Step};
 use std::alloc::Global;
+use std::process::Abort;
 
 /// A service that is called with a name or a label.
 pub enum NamedService {
@@ -140,11 +141,8 @@ pub enum Told {
 }
 
 /// A list of the bytes of a text.
-fn bytes(alloc: Global, text: &str) -> Result<List<u8>, Fault> {
-    match Vec::from_slice(alloc, text.as_bytes()) {
-        Ok(bytes) => Ok(List::from_vec(bytes)),
-        Err(_) => Err(Fault::OutOfMemory),
-    }
+fn bytes(rt: &impl Abort, alloc: Global, text: &str) -> List<u8> {
+    List::from_vec(Vec::from_slice(alloc, text.as_bytes()).expect(rt, "room"))
 }
 
 impl NamedService {
@@ -169,9 +167,9 @@ impl NamedService {
 }
 
 impl Asked {
-    fn service(&self, alloc: Global) -> Result<Service, Fault> {
-        Ok(match self {
-            Asked::Named { service, name } => service.of(bytes(alloc, name)?),
+    fn service(&self, rt: &impl Abort, alloc: Global) -> Service {
+        match self {
+            Asked::Named { service, name } => service.of(bytes(rt, alloc, name)),
             Asked::PublishInteractions { class } => {
                 Service::PublishInteractionClass { class: *class }
             }
@@ -194,7 +192,7 @@ impl Asked {
                 order: *order,
             },
             timed => timed.time_service(),
-        })
+        }
     }
 
     /// The service of a federate's time; Query LBTS for any other.
@@ -223,25 +221,25 @@ fn event(serial: Serial) -> EventHandle {
 
 impl Deed {
     /// The step.
-    pub fn step(&self, alloc: Global) -> Result<Step, Fault> {
+    pub fn step(&self, rt: &impl Abort, alloc: Global) -> Step {
         match self {
-            Deed::Join(name) => Ok(Step::Join {
-                name: bytes(alloc, name)?,
-            }),
-            Deed::Call(federate, asked) => Ok(Step::Call {
+            Deed::Join(name) => Step::Join {
+                name: bytes(rt, alloc, name),
+            },
+            Deed::Call(federate, asked) => Step::Call {
                 federate: *federate,
-                service: asked.service(alloc)?,
-            }),
-            Deed::Carry { from, to } => Ok(Step::Carry {
+                service: asked.service(rt, alloc),
+            },
+            Deed::Carry { from, to } => Step::Carry {
                 from: *from,
                 to: *to,
-            }),
-            Deed::Announce(federate) => Ok(Step::Announce {
+            },
+            Deed::Announce(federate) => Step::Announce {
                 federate: *federate,
-            }),
-            Deed::Tick(federate) => Ok(Step::Tick {
+            },
+            Deed::Tick(federate) => Step::Tick {
                 federate: *federate,
-            }),
+            },
         }
     }
 }
@@ -257,12 +255,17 @@ impl PointNews {
     }
 }
 
+/// No values.
+fn no_values(rt: &impl Abort, alloc: Global) -> SharedList<HandleValuePair> {
+    SharedList::from_list(List::new(alloc)).expect(rt, "room")
+}
+
 impl News {
     /// The callback.
-    pub fn callback(&self, alloc: Global) -> Result<Callback, Fault> {
-        Ok(match self {
+    pub fn callback(&self, rt: &impl Abort, alloc: Global) -> Callback {
+        match self {
             News::Point { news, label } => {
-                news.of(SharedList::from_slice(alloc, label.as_bytes())?)
+                news.of(SharedList::from_slice(alloc, label.as_bytes()).expect(rt, "room"))
             }
             News::Interaction {
                 class,
@@ -270,13 +273,13 @@ impl News {
                 delivery,
             } => Callback::ReceiveInteraction {
                 class: *class,
-                values: SharedList::from_list(List::new(alloc))?,
+                values: no_values(rt, alloc),
                 event: event(*serial),
                 delivery: *delivery,
             },
             News::Reflection { object } => Callback::ReflectAttributeValues {
                 object: *object,
-                values: SharedList::from_list(List::new(alloc))?,
+                values: no_values(rt, alloc),
                 event: event(1),
                 delivery: Delivery::Receive,
             },
@@ -291,19 +294,19 @@ impl News {
             News::Retraction { serial } => Callback::RequestRetraction {
                 event: event(*serial),
             },
-        })
+        }
     }
 }
 
 impl Told {
     /// The answer.
-    pub fn answer(&self, alloc: Global) -> Result<Answer, Fault> {
-        Ok(match self {
+    pub fn answer(&self, rt: &impl Abort, alloc: Global) -> Answer {
+        match self {
             Told::Registered { object, name } => Answer::Registered {
                 object: *object,
-                name: bytes(alloc, name)?,
+                name: bytes(rt, alloc, name),
             },
-            Told::Given(news) => Answer::Ticked(Some(news.callback(alloc)?)),
+            Told::Given(news) => Answer::Ticked(Some(news.callback(rt, alloc))),
             Told::Done => Answer::Done,
             Told::Federate(federate) => Answer::Federate(*federate),
             Told::Handle(handle) => Answer::Handle(*handle),
@@ -316,6 +319,6 @@ impl Told {
             Told::Nothing => Answer::Ticked(None),
             Told::Null { bound } => Answer::Carried(Carried::Null { bound: *bound }),
             Told::Announced(bound) => Answer::Announced(Some(*bound)),
-        })
+        }
     }
 }

@@ -8,7 +8,6 @@ use hla_machine::{Answer, Step};
 use hla_part_tests::FED;
 use std::alloc::Global;
 use std::process::Abort;
-use std::test::Fail;
 
 /// The number of the interaction class `Hit`.
 const HIT: u32 = 4;
@@ -219,49 +218,58 @@ const NEWCOMER: Steps = Steps {
 
 impl Line {
     /// Whether a step was answered so.
-    fn is_answer(&self, alloc: Global, answer: &Result<Answer, Fault>) -> Result<bool, Fault> {
+    fn is_answer(&self, rt: &impl Abort, alloc: Global, answer: &Result<Answer, Fault>) -> bool {
         match (&self.answer, answer) {
-            (Ok(told), Ok(answer)) => Ok(told.answer(alloc)? == *answer),
-            (Err(told), Err(fault)) => Ok(told == fault),
-            _ => Ok(false),
+            (Ok(told), Ok(answer)) => {
+                let told = told.answer(rt, alloc);
+                let is_same = told == *answer;
+                drop(told);
+                is_same
+            }
+            (Err(told), Err(fault)) => told == fault,
+            _ => false,
         }
     }
 }
 
 impl Steps {
-    fn steps(&self, alloc: Global) -> Result<Vec<Step>, Fail> {
+    fn steps(&self, rt: &impl Abort, alloc: Global) -> Vec<Step> {
         let mut steps = Vec::new(alloc);
         for line in self.lines {
-            steps.push(line.deed.step(alloc)?)?;
+            steps.push(line.deed.step(rt, alloc)).expect(rt, "room");
         }
-        Ok(steps)
+        steps
     }
 
-    /// Gives a federation with `FED` the steps, and answers what it answers.
-    fn run(&self, alloc: Global) -> Result<Vec<Result<Answer, Fault>>, Fail> {
-        let steps = self.steps(alloc)?;
-        let mut federation = Federation::new(alloc, read(alloc, FED.as_bytes())?);
-        let answers = federation.run(steps.as_slice());
-        drop(federation);
-        Ok(answers?)
-    }
-
-    /// Gives a federation the steps, which it must answer as their lines say.
-    fn check(&self, rt: &impl Abort, alloc: Global) -> Result<(), Fail> {
-        let answers = self.run(alloc)?;
-        assert_eq!(rt; answers.len(), self.lines.len());
-        for (place, (line, answer)) in self.lines.iter().zip(answers.as_slice()).enumerate() {
-            let is_right = line.is_answer(alloc, answer)?;
+    /// Says that answers are those of the lines.
+    fn compare(&self, rt: &impl Abort, alloc: Global, answers: &[Result<Answer, Fault>]) {
+        assert!(rt; answers.len() == self.lines.len(), "{}", self.name);
+        for (place, (line, answer)) in self.lines.iter().zip(answers).enumerate() {
+            let is_right = line.is_answer(rt, alloc, answer);
             assert!(rt; is_right, "{}, step {place}: {answer:?}", self.name);
         }
-        Ok(())
+    }
+
+    /// Gives a federation with `FED` the steps, which it must answer as their lines say.
+    fn check(&self, rt: &impl Abort, alloc: Global) {
+        let steps = self.steps(rt, alloc);
+        let catalogue = read(alloc, FED.as_bytes()).expect(rt, "a catalogue");
+        let mut federation = Federation::new(alloc, catalogue);
+        let answers = federation.run(steps.as_slice());
+        drop(federation);
+        drop(steps);
+        let answers = answers.expect(rt, "answers");
+        self.compare(rt, alloc, answers.as_slice());
+        drop(answers);
     }
 }
 
+/// All lists of steps.
+static ALL: [&Steps; 2] = [&LOOK_UPS, &NEWCOMER];
+
 #[test]
-fn runs_lists_of_steps(rt: HostRuntime) -> Result<(), Fail> {
-    for steps in [&LOOK_UPS, &NEWCOMER] {
-        steps.check(&rt, rt.alloc())?;
+fn runs_lists_of_steps(rt: HostRuntime) {
+    for steps in &ALL {
+        steps.check(&rt, rt.alloc());
     }
-    Ok(())
 }

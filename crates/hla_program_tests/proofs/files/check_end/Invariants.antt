@@ -1,4 +1,4 @@
-use Rattle.hla_program_tests.proofs.files.status_of.Given as goal
+use Rattle.hla_program_tests.proofs.files.check_end.Given as goal
 
 -- the ledger that was just made
 abbrev pub ghosts-do_task-L-Ledger : goal.ghosts-do_task-L-Ledger
