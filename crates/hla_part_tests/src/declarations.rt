@@ -94,6 +94,7 @@ static SERVED: [&str; 4] = [
     "those receive that subscribed, each at its class",
 ];
 
+/// Which of `SERVED` are so.
 fn served(
     rt: &impl Abort,
     alloc: Global,
@@ -146,6 +147,7 @@ static WITHDRAWN: [&str; 4] = [
     "it receives no interaction",
 ];
 
+/// Which of `WITHDRAWN` are so.
 fn withdrawn(
     rt: &impl Abort,
     alloc: Global,
@@ -236,6 +238,7 @@ static DECLARED: [&str; 5] = [
     "it publishes and subscribes both classes",
 ];
 
+/// Which of `DECLARED` are so.
 fn declared(declarations: &Declarations) -> [bool; 5] {
     [
         declarations.published_attributes(1, 3) == [3].as_slice(),

@@ -24,6 +24,7 @@ static CATALOGUE: [&str; 14] = [
     "an interaction class has its order",
 ];
 
+/// Which of `CATALOGUE` are so.
 fn catalogue(catalogue: &Catalogue) -> [bool; 14] {
     [
         catalogue.object_class(b"ObjectRoot.Car") == Some(2),
@@ -81,6 +82,7 @@ static OF_ANY_CASE: [&str; 5] = [
     "it has its parameter",
 ];
 
+/// Which of `OF_ANY_CASE` are so.
 fn of_any_case(catalogue: &Catalogue) -> [bool; 5] {
     [
         catalogue.object_path(1) == b"Root X".as_slice(),
@@ -106,6 +108,7 @@ static INHERITED: [&str; 7] = [
     "but not what was declared in the first",
 ];
 
+/// Which of `INHERITED` are so.
 fn inherited(catalogue: &Catalogue) -> [bool; 7] {
     [
         catalogue.attributes().len() == 3,

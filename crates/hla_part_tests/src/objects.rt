@@ -50,6 +50,7 @@ static REGISTERED: [&str; 11] = [
     "its owner owns no other attributes",
 ];
 
+/// Which of `REGISTERED` are so.
 fn registered(registry: &Registry) -> [bool; 11] {
     [
         registry.next_object() == 4,
@@ -87,6 +88,7 @@ static KNOWN: [&str; 6] = [
     "but was made known",
 ];
 
+/// Which of `KNOWN` are so.
 fn known(rt: &impl Abort, registry: &mut Registry) -> [bool; 6] {
     let before = known_to(registry);
     let unknown = registry.object_named(1, b"Bus");
@@ -115,6 +117,7 @@ static DELETED: [&str; 6] = [
     "an object with that has the next number",
 ];
 
+/// Which of `DELETED` are so.
 fn deleted(rt: &impl Abort, alloc: Global, registry: &mut Registry) -> [bool; 6] {
     assert!(rt; registry.next_object() > 1);
     registry.delete(1);
