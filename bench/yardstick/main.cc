@@ -5,6 +5,7 @@
 #include <cstdio>
 #include <cstdlib>
 #include <string>
+#include <unordered_map>
 #include <vector>
 
 #include "federation.hh"
@@ -189,6 +190,41 @@ void queue(u32 n) {
     }
     counts.queued = n + 1000000ull;
 }
+// The same on a heap whose events can also be taken out by their names, as the library's queue promises: a table has the stamp of each
+// name that waits. What was taken out by its name stays in the heap until it comes to the front.
+struct NamedHeap {
+    Heap heap;
+    std::unordered_map<u64, u64> stamps;
+    static u64 name(u32 sender, u64 serial) { return serial << 5 | sender; }
+    bool put(Waiting w) {
+        if (!stamps.emplace(name(w.sender, w.serial), w.stamp).second) return false;
+        heap.put(std::move(w));
+        return true;
+    }
+    bool take(Waiting &w) {
+        while (!heap.items.empty()) {
+            w = heap.take();
+            auto found = stamps.find(name(w.sender, w.serial));
+            if (found == stamps.end() || found->second != w.stamp) continue;
+            stamps.erase(found);
+            return true;
+        }
+        return false;
+    }
+    bool remove(u32 sender, u64 serial) { return stamps.erase(name(sender, serial)) > 0; }
+};
+void named_queue(u32 n) {
+    Random r;
+    NamedHeap h;
+    u64 serial = 0;
+    for (; serial < n; serial++) h.put({r.next() % (1 << 20), serial, 1, Share()});
+    for (u64 k = 0; k < 1000000; k++) {
+        Waiting w;
+        if (!h.take(w)) break;
+        h.put({w.stamp + r.next() % (1 << 20), serial++, 1, Share()});
+    }
+    counts.queued = n + 1000000ull;
+}
 
 int main(int argc, char **argv) {
     auto n = [&](int i) { return i < argc ? (u64)atoll(argv[i]) : 0; };
@@ -204,6 +240,8 @@ int main(int argc, char **argv) {
         updates(n(2), n(3));
     else if (what == "queue")
         queue(n(2));
+    else if (what == "named_queue")
+        named_queue(n(2));
     else
         return 2;
     double us = std::chrono::duration<double, std::micro>(std::chrono::steady_clock::now() - start).count();
