@@ -2,8 +2,6 @@
 pub mod Sending
 -- Updates as their receivers are shown them
 pub mod Reflecting
--- The services that request an advance
-pub mod Advancing
 -- The discoveries of a new object
 pub mod Discovering
 -- The components that the parts stand for, and how a step may end

@@ -2,7 +2,7 @@
 
 ghost use Rattle.hla_machine.specs.declared.service.Service.TheVariants as service;
 ghost use Rattle.hla_machine.specs.declared.step.Step.TheVariants as step;
-ghost use Rattle.hla_federation.specs.Steps.Advancing.{request_service};
+ghost use Rattle.hla_machine.specs.Advancing.{request_service};
 ghost use Rattle.hla_federation.specs.Steps.Soundness.{MayCall};
 ghost use Rattle.hla_federation.specs.Steps.State.{IsWhole, Ends, EndsChosen, Answers};
 

@@ -24,6 +24,8 @@ pub mod CentralInvariant
 pub mod Laws
 -- The same of the happenings of one run
 pub mod Lawful
+-- The services that request an advance
+pub mod Advancing
 -- `==` of services tells them apart: a service at a time, since the search over all pairs of services is too long
 pub mod Services
 -- `==` of steps, outcomes, acts and records tells them apart, part by part

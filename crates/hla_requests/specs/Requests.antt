@@ -18,7 +18,7 @@ use Rattle.hla_commands.specs.declared.lines.Command.TheVariants as command
 use Rattle.hla_commands.specs.declared.lines.Call.{Call}
 use Rattle.hla_commands.specs.declared.lines.Call.TheVariants as call
 use Rattle.hla_commands.specs.declared.lines.NameValuePair.{NameValuePair}
-use Rattle.hla_federation.specs.Steps.Advancing.{request_service}
+use Rattle.hla_machine.specs.Advancing.{request_service}
 use Rattle.hla_requests.specs.declared.members.NamedFederate.{NamedFederate}
 use Rattle.hla_requests.specs.declared.lookups.AskFault.{AskFault}
 use Rattle.hla_requests.specs.declared.lookups.AskFault.TheVariants as stop

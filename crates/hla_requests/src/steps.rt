@@ -1,7 +1,7 @@
 //! What a line asks of the execution.
 
 ghost use Rattle.std.specs.Prelude.{◌≡◌, IfOk, IfErr};
-ghost use Rattle.hla_federation.specs.Steps.Advancing.{request_service};
+ghost use Rattle.hla_machine.specs.Advancing.{request_service};
 ghost use Rattle.hla_requests.specs.Requests.{Asks, object_declaration, object_withdrawal, interaction_declaration, interaction_withdrawal, registration, update_of, interaction_of, attribute_order_change, interaction_order_change, time_service_of, object_service_of, service_of, request_of};
 
 use crate::lookups::{

@@ -28,7 +28,7 @@ use Rattle.hla_synchronization.specs.Points.{Point}
 use Rattle.hla_federation.specs.FederationValue.{FederationValue}
 use Rattle.hla_members.specs.MemberValue.{MemberValue}
 use Rattle.hla_members.specs.Members.{MemberTables, members_of, with_component}
-use Rattle.hla_federation.specs.Steps.Advancing.{request_service}
+use Rattle.hla_machine.specs.Advancing.{request_service}
 use Rattle.hla_federation.specs.Steps.State.{state_of, state_from, IsWhole, IsUnmet}
 use Rattle.hla_members.proofs.MemberTables.{upd-self, upd-field}
 use Rattle.hla_federation.proofs.Steps.Wholes.{whole_same, unmet_with}

@@ -8,7 +8,7 @@ use Rattle.hla_machine.specs.declared.step.Step.TheVariants.{Call}
 use Rattle.hla_components.specs.Components.{Components}
 use Rattle.hla_components.specs.Next.{next, answer_outcome, done_outcome, components_seen}
 use Rattle.hla_federation.specs.FederationValue.{FederationValue}
-use Rattle.hla_federation.specs.Steps.Advancing.{request_service}
+use Rattle.hla_machine.specs.Advancing.{request_service}
 use Rattle.hla_federation.specs.Steps.State.{state_of}
 use Rattle.hla_federation.proofs.Steps.Changing.{component_whole, row_state, request_refusal, request_next}
 use Rattle.hla_federation.proofs.parts.Parts.request_advance.Goals as goal
