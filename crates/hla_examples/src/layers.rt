@@ -214,7 +214,7 @@ fn printed_at<L: Ledger + Naming, R: Wait>(
 {
     let own = recorders(alloc, script)?;
     let mut text = Vec::new(alloc);
-    let ran = run_in_order_within::<L, Recorder, R, &mut Vec<u8>>(
+    let ran = run_in_order_within::<L, Recorder, Federation, R, &mut Vec<u8>>(
         rt,
         alloc,
         blank,

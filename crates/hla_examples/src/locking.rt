@@ -7,6 +7,7 @@ use crate::Files;
 use hla_base::LEDGER_PARTS;
 use hla_callbacks::Recorder;
 use hla_checker::check_run;
+use hla_federation::Federation;
 use hla_in_order::run_in_order;
 use hla_monitor::{Naming, Opened};
 use hla_run::{OpenGate, recorders, run_scripts};
@@ -36,7 +37,7 @@ fn prints_expected<L: Ledger + Naming, R: Wait>(
         return false;
     };
     let mut transcript = Vec::new(alloc);
-    let ran = run_in_order::<L, Recorder, R, &mut Vec<u8>>(
+    let ran = run_in_order::<L, Recorder, Federation, R, &mut Vec<u8>>(
         rt,
         alloc,
         blank,
@@ -92,7 +93,7 @@ fn ends_on_threads<L: Ledger + Naming + Send + Sync, R: Threads + Wait + Sync>(
         return false;
     };
     let mut transcript = Vec::new(alloc);
-    let ran = run_scripts::<L, Recorder, OpenGate, R, &mut Vec<u8>>(
+    let ran = run_scripts::<L, Recorder, Federation, OpenGate, R, &mut Vec<u8>>(
         rt,
         alloc,
         blank,

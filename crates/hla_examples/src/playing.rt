@@ -5,6 +5,7 @@ ghost use Rattle.hla_base.specs.Limits.{ledger_parts, max_history_limit};
 
 use hla_base::LEDGER_PARTS;
 use hla_checker::check_run;
+use hla_federation::Federation;
 use hla_in_order::run_in_order_within;
 use hla_machine::Record;
 use hla_monitor::{Naming, Opened};
@@ -69,7 +70,7 @@ fn played_at<L: Ledger + Naming, R: Wait>(
         return None;
     };
     let mut text = Vec::new(alloc);
-    let ran = run_in_order_within::<L, Listener, R, &mut Vec<u8>>(
+    let ran = run_in_order_within::<L, Listener, Federation, R, &mut Vec<u8>>(
         rt,
         alloc,
         blank,

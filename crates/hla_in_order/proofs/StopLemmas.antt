@@ -6,7 +6,7 @@ use Rattle.hla_commands.specs.Script.{script_of}
 use Rattle.hla_commands.specs.declared.lines.Line.{Line}
 use Rattle.hla_fed_file.specs.Grammar.{Describes}
 use Rattle.hla_machine.specs.declared.step.Outcome.{Outcome}
-use Rattle.hla_rti.specs.Callers.{Leaver, Office}
+use Rattle.hla_callers.specs.Callers.{Leaver, Office}
 use Rattle.hla_in_order.specs.InOrder.{IsDoneInOrder, StopsInOrder}
 use Rattle.hla_outcomes.specs.Running.{IsCutText, StopsText, told_text}
 use Rattle.hla_in_order.specs.Turns.{AreDoneAs, HaveEnded, StopsDoing}

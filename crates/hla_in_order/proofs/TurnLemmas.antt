@@ -23,8 +23,8 @@ use Rattle.hla_requests.specs.declared.steps.Request.{Request}
 use Rattle.hla_requests.specs.declared.steps.Request.TheVariants as request
 use Rattle.hla_requests.specs.Members.{members, members_from, member_after, with_change, with_create, change_of}
 use Rattle.hla_history.specs.Closing.{records_by}
-use Rattle.hla_rti.specs.Callers.{Caller, FederateCaller, Leaver, HasActed, HasNotActed, answer_given, said, nothing, new_caller}
-use Rattle.hla_rti.specs.Close.{AllAgree}
+use Rattle.hla_callers.specs.Callers.{Caller, FederateCaller, Leaver, HasActed, HasNotActed, answer_given, said, nothing, new_caller}
+use Rattle.hla_callers.specs.Close.{AllAgree}
 use Rattle.hla_in_order.specs.InOrder.{RequestEnds, Unrecorded, Recorded, LineComesOut, Does, IsUnrecorded, IsCaller, IsStepper, IsEntrant, act_asked, number_joined, entrants, callers, HasJust}
 use Rattle.hla_in_order.specs.Players.{IsAs, IsBook, Stand}
 use Rattle.hla_in_order.specs.Turns.{DoesIn, IsJoinedAs, IsJoinedAt, DoesAt, Led, members_noted, HasLeft, HaveLeft}
@@ -45,21 +45,21 @@ set_here [] k x at = refl
 set_here {X = X} (y ∷ xs) zero x at = let same : y ≡ x = cc in ap (λ (z : X). z ∷ xs) (sym same)
 set_here {X = X} (y ∷ xs) (suc k) x at = ap (λ (zs : List X). y ∷ zs) (set_here xs k x at)
 
-module _ {L B P : Type 0} where
+module _ {L B P F : Type 0} where
   -- at its place
-  pub does_at : (ps qs : List (Option (Player L B P))) (k f : ℕ) (what : Deed) (out : Outcome) (old new : Option (Player L B P)) → IsJoinedAt ps k f → slice_get ps k ≡ Some old → DoesIn old what out new → qs ≡ slice_set ps k new → DoesAt ps f what out qs
+  pub does_at : (ps qs : List (Option (Player L B P F))) (k f : ℕ) (what : Deed) (out : Outcome) (old new : Option (Player L B P F)) → IsJoinedAt ps k f → slice_get ps k ≡ Some old → DoesIn old what out new → qs ≡ slice_set ps k new → DoesAt ps f what out qs
   does_at ps qs k f what out old new joined at does sets =
       let same : joined.0 ≡ old = let e : Some joined.0 ≡ Some old = sym joined.1 ∙ at in cc in
       elim does [
         | inl done ↦
-            let named : done.0.federate ≡ f = subst (λ (o : Option (Player L B P)). IsJoinedAs f o) (same ∙ done.2) joined.2 in
-            inl (k, done.0, done.1, at ∙ ap (λ (o : Option (Player L B P)). Some o) done.2, named, done.3, sets ∙ ap (λ (o : Option (Player L B P)). slice_set ps k o) done.4)
-        | inr none ↦ inr (none.0, sets ∙ ap (λ (o : Option (Player L B P)). slice_set ps k o) none.1 ∙ set_here ps k old at)
+            let named : done.0.federate ≡ f = subst (λ (o : Option (Player L B P F)). IsJoinedAs f o) (same ∙ done.2) joined.2 in
+            inl (k, done.0, done.1, at ∙ ap (λ (o : Option (Player L B P F)). Some o) done.2, named, done.3, sets ∙ ap (λ (o : Option (Player L B P F)). slice_set ps k o) done.4)
+        | inr none ↦ inr (none.0, sets ∙ ap (λ (o : Option (Player L B P F)). slice_set ps k o) none.1 ∙ set_here ps k old at)
       ]
 
   -- ---- what a caller's act leads to
   -- of the infrastructure itself
-  pub itself_led : (fed : List ℕ) (rs : List Record) (asked : Request) (out : Outcome) (own new courier : Caller) (ps : List (Option (Player L B P))) → Stand rs own courier ps → IsCaller rs asked own.number
+  pub itself_led : (fed : List ℕ) (rs : List Record) (asked : Request) (out : Outcome) (own new courier : Caller) (ps : List (Option (Player L B P F))) → Stand rs own courier ps → IsCaller rs asked own.number
       → ((o : Outcome) → number_joined (act_asked fed asked) o ≡ []) → HasTold own (codes "play") (act_asked fed asked) out new → Led fed rs asked out new courier ps
   itself_led fed rs asked out own new courier ps s caller none told = elim told [
     | inl acted ↦
@@ -69,7 +69,7 @@ module _ {L B P : Type 0} where
   ]
 
   -- of the courier
-  pub courier_led : (fed : List ℕ) (rs : List Record) (asked : Request) (out : Outcome) (own courier new : Caller) (ps : List (Option (Player L B P))) → Stand rs own courier ps → IsCaller rs asked courier.number
+  pub courier_led : (fed : List ℕ) (rs : List Record) (asked : Request) (out : Outcome) (own courier new : Caller) (ps : List (Option (Player L B P F))) → Stand rs own courier ps → IsCaller rs asked courier.number
       → ((o : Outcome) → number_joined (act_asked fed asked) o ≡ []) → HasTold courier (codes "play") (act_asked fed asked) out new → Led fed rs asked out own new ps
   courier_led fed rs asked out own courier new ps s caller none told = elim told [
     | inl acted ↦
@@ -78,12 +78,12 @@ module _ {L B P : Type 0} where
     | inr not ↦ ([], (Unrecorded not.0 (not_acted asked not.0 not.2.0) not.1 refl, subst (λ (c : Caller). Stand (rs ++ []) own c ps) (sym not.2.1) (nothing_added rs own courier ps s)))
   ]
 
-  stays_as : (m : FederateCaller) (p : Player L B P) → StaysAs m p → (f : ℕ) → IsAs {L = L} {B = B} {P = P} f (player.Joined m) → IsAs f p
+  stays_as : (m : FederateCaller) (p : Player L B P F) → StaysAs m p → (f : ℕ) → IsAs {L = L} {B = B} {P = P} {F = F} f (player.Joined m) → IsAs f p
   stays_as m (player.Joined new) stays f is = (stays.0 ∙ is.0, stays.1 ∙ is.1)
   stays_as m (player.Gone l) stays f is = tt
 
   -- of a federate
-  federate_led : (fed : List ℕ) (rs : List Record) (asks : Step) (f k : ℕ) (out : Outcome) (own courier : Caller) (ps : List (Option (Player L B P))) (m : FederateCaller) (p : Player L B P) → Stand rs own courier ps
+  federate_led : (fed : List ℕ) (rs : List Record) (asks : Step) (f k : ℕ) (out : Outcome) (own courier : Caller) (ps : List (Option (Player L B P F))) (m : FederateCaller) (p : Player L B P F) → Stand rs own courier ps
       → slice_get ps k ≡ Some (Some (player.Joined m)) → m.federate ≡ f → HasTold m.caller m.execution (act.Step asks) out (caller_of p) → StaysAs m p
       → ((n : ℕ) → IsEntrant rs f n → IsStepper rs asks n) → ((o : Outcome) → number_joined (act.Step asks) o ≡ []) → Led fed rs (request.Step asks) out own courier (slice_set ps k (Some p))
   federate_led fed rs asks f k out own courier ps m p s at named told stays stepper none =
@@ -105,28 +105,28 @@ module _ {L B P : Type 0} where
       ]
 
   -- of the federate of a number, or of none
-  pub call_led : (fed : List ℕ) (rs : List Record) (x : Service) (f : ℕ) (out : Outcome) (own courier : Caller) (ps new : List (Option (Player L B P))) → Stand rs own courier ps → DoesAt ps f (deed.Serve x) out new
+  pub call_led : (fed : List ℕ) (rs : List Record) (x : Service) (f : ℕ) (out : Outcome) (own courier : Caller) (ps new : List (Option (Player L B P F))) → Stand rs own courier ps → DoesAt ps f (deed.Serve x) out new
       → Led fed rs (request.Step (step.Call f x)) out own courier new
   call_led fed rs x f out own courier ps new s does = elim does [
     | inl at ↦
         let told = subst (λ (g : ℕ). HasTold at.1.caller at.1.execution (act.Step (step.Call g x)) out (caller_of at.2)) at.4 at.5.0 in
-        subst (λ (qs : List (Option (Player L B P))). Led fed rs (request.Step (step.Call f x)) out own courier qs) (sym at.6)
+        subst (λ (qs : List (Option (Player L B P F))). Led fed rs (request.Step (step.Call f x)) out own courier qs) (sym at.6)
         (federate_led fed rs (step.Call f x) f at.0 out own courier ps at.1 at.2 s at.3 at.4 told at.5.1 (λ n is. is) (λ o. refl))
-    | inr none ↦ ([], (Unrecorded fault.FederateNotExecutionMember (inr refl) none.0 refl, subst (λ (qs : List (Option (Player L B P))). Stand (rs ++ []) own courier qs) (sym none.1) (nothing_added rs own courier ps s)))
+    | inr none ↦ ([], (Unrecorded fault.FederateNotExecutionMember (inr refl) none.0 refl, subst (λ (qs : List (Option (Player L B P F))). Stand (rs ++ []) own courier qs) (sym none.1) (nothing_added rs own courier ps s)))
   ]
 
-  pub tick_led : (fed : List ℕ) (rs : List Record) (f : ℕ) (out : Outcome) (own courier : Caller) (ps new : List (Option (Player L B P))) → Stand rs own courier ps → DoesAt ps f deed.Tick out new
+  pub tick_led : (fed : List ℕ) (rs : List Record) (f : ℕ) (out : Outcome) (own courier : Caller) (ps new : List (Option (Player L B P F))) → Stand rs own courier ps → DoesAt ps f deed.Tick out new
       → Led fed rs (request.Step (step.Tick f)) out own courier new
   tick_led fed rs f out own courier ps new s does = elim does [
     | inl at ↦
         let told = subst (λ (g : ℕ). HasTold at.1.caller at.1.execution (act.Step (step.Tick g)) out (caller_of at.2)) at.4 at.5.0 in
-        subst (λ (qs : List (Option (Player L B P))). Led fed rs (request.Step (step.Tick f)) out own courier qs) (sym at.6)
+        subst (λ (qs : List (Option (Player L B P F))). Led fed rs (request.Step (step.Tick f)) out own courier qs) (sym at.6)
         (federate_led fed rs (step.Tick f) f at.0 out own courier ps at.1 at.2 s at.3 at.4 told at.5.1 (λ n is. is) (λ o. refl))
-    | inr none ↦ ([], (Unrecorded fault.FederateNotExecutionMember (inr refl) none.0 refl, subst (λ (qs : List (Option (Player L B P))). Stand (rs ++ []) own courier qs) (sym none.1) (nothing_added rs own courier ps s)))
+    | inr none ↦ ([], (Unrecorded fault.FederateNotExecutionMember (inr refl) none.0 refl, subst (λ (qs : List (Option (Player L B P F))). Stand (rs ++ []) own courier qs) (sym none.1) (nothing_added rs own courier ps s)))
   ]
 
   -- of one who joins
-  pub join_led : (fed : List ℕ) (rs : List Record) (name : List ℕ) (handed : ℕ) (own new courier : Caller) (ps : List (Option (Player L B P))) (m : FederateCaller) → Stand rs own courier ps → handed ≡ length ps + 1
+  pub join_led : (fed : List ℕ) (rs : List Record) (name : List ℕ) (handed : ℕ) (own new courier : Caller) (ps : List (Option (Player L B P F))) (m : FederateCaller) → Stand rs own courier ps → handed ≡ length ps + 1
       → HasActed own (codes "play") (act.Step (step.Join name)) (outcome.Done (answer.Federate m.federate)) new → m.caller ≡ new_caller (handed + 1) → m.execution ≡ codes "play"
       → Led fed rs (request.Step (step.Join name)) (outcome.Done (answer.Federate m.federate)) new courier (ps ++ Some (player.Joined m) ∷ [])
   join_led fed rs name handed own new courier ps m s many acted is_new plays =
@@ -138,7 +138,7 @@ module _ {L B P : Type 0} where
         ),
       )
 
-  pub unjoined_led : (fed : List ℕ) (rs : List Record) (name : List ℕ) (e : Fault) (own new courier : Caller) (ps : List (Option (Player L B P))) → Stand rs own courier ps
+  pub unjoined_led : (fed : List ℕ) (rs : List Record) (name : List ℕ) (e : Fault) (own new courier : Caller) (ps : List (Option (Player L B P F))) → Stand rs own courier ps
       → (HasActed own (codes "play") (act.Step (step.Join name)) (outcome.Refused e) new ⊎ HasNotActed own e new) ⊎ ((e ≡ fault.LimitReached) × (new ≡ own))
       → Led fed rs (request.Step (step.Join name)) (outcome.Refused e) new courier ps
   unjoined_led fed rs name e own new courier ps s refused = elim refused [

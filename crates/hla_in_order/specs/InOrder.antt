@@ -23,7 +23,7 @@ use Rattle.hla_machine.specs.declared.step.Step.{Step}
 use Rattle.hla_machine.specs.declared.step.Step.TheVariants as step
 use Rattle.hla_history.specs.Closing.{records_by}
 use Rattle.hla_history.specs.Creating.{catalogue_from}
-use Rattle.hla_rti.specs.Callers.{answer_given}
+use Rattle.hla_callers.specs.Callers.{answer_given}
 use Rattle.hla_requests.specs.Members.{members}
 use Rattle.hla_requests.specs.Requests.{request_of}
 use Rattle.hla_requests.specs.declared.steps.Request.{Request}

@@ -5,6 +5,7 @@ ghost use Rattle.hla_in_order.specs.Turns.{DoesAt, DoesIn, IsJoinedAs, IsJoinedA
 
 use hla_base::{Fault, FederateNo};
 use hla_callbacks::FederateAmbassador;
+use hla_execution::Execution;
 use hla_machine::Outcome;
 use hla_monitor::{Naming, Publisher};
 use hla_players::{Acted, Deed, Player, do_deed};
@@ -12,8 +13,8 @@ use std::sync::Wait;
 use std::sync::ledger::Ledger;
 
 /// Whether the federate of a number is here, joined.
-fn is_joined_as<L: Ledger + Naming, B: FederateAmbassador, P: Publisher<L>>(
-    slot: &Option<Player<L, B, P>>,
+fn is_joined_as<L: Ledger + Naming, B: FederateAmbassador, P: Publisher<L>, F: Execution>(
+    slot: &Option<Player<L, B, P, F>>,
     number: FederateNo,
 ) -> bool
     ensures { IsTrue result → IsJoinedAs number slot.now }
@@ -25,8 +26,8 @@ fn is_joined_as<L: Ledger + Naming, B: FederateAmbassador, P: Publisher<L>>(
 }
 
 /// The place of the joined federate of a number, if there is one.
-fn place_of<L: Ledger + Naming, B: FederateAmbassador, P: Publisher<L>>(
-    players: &[Option<Player<L, B, P>>],
+fn place_of<L: Ledger + Naming, B: FederateAmbassador, P: Publisher<L>, F: Execution>(
+    players: &[Option<Player<L, B, P, F>>],
     number: FederateNo,
 ) -> Option<usize>
     ensures { IfSome result (λ k. IsJoinedAt players.now k number) }
@@ -40,9 +41,9 @@ fn place_of<L: Ledger + Naming, B: FederateAmbassador, P: Publisher<L>>(
 }
 
 /// Has the federate that is here do something, if it is joined.
-fn act_in<L: Ledger + Naming, B: FederateAmbassador, P: Publisher<L>>(
+fn act_in<L: Ledger + Naming, B: FederateAmbassador, P: Publisher<L>, F: Execution>(
     rt: &impl Wait,
-    slot: &mut Option<Player<L, B, P>>,
+    slot: &mut Option<Player<L, B, P, F>>,
     deed: Deed,
 ) -> Outcome
     ensures { DoesIn slot.old deed result slot.new }
@@ -62,9 +63,9 @@ fn act_in<L: Ledger + Naming, B: FederateAmbassador, P: Publisher<L>>(
 }
 
 /// Has the joined federate of a number do something.
-pub fn act<L: Ledger + Naming, B: FederateAmbassador, P: Publisher<L>>(
+pub fn act<L: Ledger + Naming, B: FederateAmbassador, P: Publisher<L>, F: Execution>(
     rt: &impl Wait,
-    players: &mut Vec<Option<Player<L, B, P>>>,
+    players: &mut Vec<Option<Player<L, B, P, F>>>,
     number: FederateNo,
     deed: Deed,
 ) -> Outcome

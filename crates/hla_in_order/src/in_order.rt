@@ -11,7 +11,7 @@ ghost use Rattle.hla_machine.specs.declared.step.Record.{Record};
 ghost use Rattle.hla_machine.specs.declared.step.Step.TheVariants as step;
 ghost use Rattle.hla_requests.specs.Members.{change_of, with_change, with_create};
 ghost use Rattle.hla_requests.specs.declared.steps.Request.TheVariants as request;
-ghost use Rattle.hla_rti.specs.Callers.{Office, new_caller};
+ghost use Rattle.hla_callers.specs.Callers.{Office, new_caller};
 ghost use Rattle.hla_in_order.specs.InOrder.{IsRunInOrder, StopsInOrder, callers};
 ghost use Rattle.hla_outcomes.specs.Running.{IsSeen, is_unwritten_run};
 ghost use Rattle.hla_in_order.specs.Turns.{AreDone, StopsDoing, HaveEnded, HaveLed, HaveLeft, IsSet, RequestLeads, LineLeads};
@@ -21,6 +21,8 @@ use hla_base::{ExecutionName, Fault, FederateNo, List, MAX_HISTORY, Plain};
 use hla_callbacks::FederateAmbassador;
 use hla_catalogue::Catalogue;
 use hla_commands::{Command, Line};
+use hla_execution::Execution;
+use hla_interface::{Closed, Courier, Left, Rti, open_rti};
 use hla_machine::{Answer, Outcome, Service, Step};
 use hla_monitor::{Naming, Opened, Publisher};
 use hla_players::{
@@ -28,7 +30,6 @@ use hla_players::{
     outcome_of_announced, outcome_of_carried, outcome_of_done, read_texts, watcher,
 };
 use hla_requests::{AskFault, MemberChange, NamedFederate, Request, note};
-use hla_rti::{Closed, Courier, Left, Rti, open_rti};
 use hla_transcript::Watched;
 use std::alloc::Global;
 use std::io::Write;
@@ -37,25 +38,25 @@ use std::sync::ledger::{Blank, Ledger};
 
 /// All callers of a script on one thread, but for the infrastructure.
 #[derive(Drop)]
-pub struct Cast<L: Ledger + Naming, B: FederateAmbassador, P: Publisher<L>> {
+pub struct Cast<L: Ledger + Naming, B: FederateAmbassador, P: Publisher<L>, F: Execution> {
     alloc: Global,
     execution: ExecutionName,
-    courier: Courier<L, B, P>,
+    courier: Courier<L, B, P, F>,
     /// Of the federates that are to join.
     ambassadors: Ambassadors<B>,
     members: Vec<NamedFederate>,
     /// The federates, in the order in which they joined; only the one that acts is not there meanwhile.
-    players: Vec<Option<Player<L, B, P>>>,
+    players: Vec<Option<Player<L, B, P, F>>>,
 }
 
-impl<L: Ledger + Naming, B: FederateAmbassador, P: Publisher<L>> Cast<L, B, P> {
+impl<L: Ledger + Naming, B: FederateAmbassador, P: Publisher<L>, F: Execution> Cast<L, B, P, F> {
     /// Nobody yet.
     fn new(
         alloc: Global,
         execution: ExecutionName,
-        courier: Courier<L, B, P>,
+        courier: Courier<L, B, P, F>,
         ambassadors: Ambassadors<B>,
-    ) -> Cast<L, B, P>
+    ) -> Cast<L, B, P, F>
         ensures ambassadors { result.ambassadors ≡ ambassadors }
         ensures set { courier ≡ new_caller 1 → execution ≡ codes "play"
             → IsSet [] (record { handed = 1; couriers = 1; own = new_caller 0 }) result }
@@ -75,7 +76,7 @@ impl<L: Ledger + Naming, B: FederateAmbassador, P: Publisher<L>> Cast<L, B, P> {
     fn join(
         &mut self,
         rt: &impl Wait,
-        rti: &mut Rti<L, B, P>,
+        rti: &mut Rti<L, B, P, F>,
         name: List<u8>,
     ) -> Result<Outcome, Fault>
         requires { 0 < length self.old.ambassadors }
@@ -143,7 +144,12 @@ impl<L: Ledger + Naming, B: FederateAmbassador, P: Publisher<L>> Cast<L, B, P> {
     }
 
     /// Does a step. An error is want of memory outside the step.
-    fn step(&mut self, rt: &impl Wait, rti: &mut Rti<L, B, P>, step: Step) -> Result<Outcome, Fault>
+    fn step(
+        &mut self,
+        rt: &impl Wait,
+        rti: &mut Rti<L, B, P, F>,
+        step: Step,
+    ) -> Result<Outcome, Fault>
         requires { step_joins step ≤ length self.old.ambassadors }
         ensures ambassadors { self.new.ambassadors ≡ drop (step_joins step) self.old.ambassadors }
         ensures members { self.new.members ≡ self.old.members }
@@ -163,7 +169,7 @@ impl<L: Ledger + Naming, B: FederateAmbassador, P: Publisher<L>> Cast<L, B, P> {
     fn step_and_note(
         &mut self,
         rt: &impl Wait,
-        rti: &mut Rti<L, B, P>,
+        rti: &mut Rti<L, B, P, F>,
         step: Step,
     ) -> Result<Outcome, Fault>
         requires { step_joins step ≤ length self.old.ambassadors }
@@ -191,7 +197,7 @@ impl<L: Ledger + Naming, B: FederateAmbassador, P: Publisher<L>> Cast<L, B, P> {
     }
 
     /// Creates the execution; its federates' names are not known any more where it is created anew.
-    fn create(&mut self, rt: &impl Wait, rti: &mut Rti<L, B, P>, fed: &[u8]) -> Outcome
+    fn create(&mut self, rt: &impl Wait, rti: &mut Rti<L, B, P, F>, fed: &[u8]) -> Outcome
         ensures ambassadors { self.new.ambassadors ≡ self.old.ambassadors }
         ensures members { self.new.members.items ≡ with_create self.old.members.items result }
         ensures led { RequestLeads fed.now request.Create result rti.old self.old rti.new self.new }
@@ -204,7 +210,7 @@ impl<L: Ledger + Naming, B: FederateAmbassador, P: Publisher<L>> Cast<L, B, P> {
     }
 
     /// Destroys the execution.
-    fn destroy(&mut self, rt: &impl Wait, rti: &mut Rti<L, B, P>) -> Outcome
+    fn destroy(&mut self, rt: &impl Wait, rti: &mut Rti<L, B, P, F>) -> Outcome
         ensures same { self.new ≡ self.old }
         ensures led { (fed : List ℕ) →
             RequestLeads fed request.Destroy result rti.old self.old rti.new self.new }
@@ -232,7 +238,7 @@ impl<L: Ledger + Naming, B: FederateAmbassador, P: Publisher<L>> Cast<L, B, P> {
     fn line(
         &mut self,
         rt: &impl Wait,
-        rti: &mut Rti<L, B, P>,
+        rti: &mut Rti<L, B, P, F>,
         fed: &[u8],
         catalogue: &Catalogue,
         command: &Command<'_>,
@@ -262,7 +268,7 @@ impl<L: Ledger + Naming, B: FederateAmbassador, P: Publisher<L>> Cast<L, B, P> {
     fn lines(
         &mut self,
         rt: &impl Wait,
-        rti: &mut Rti<L, B, P>,
+        rti: &mut Rti<L, B, P, F>,
         fed: &[u8],
         catalogue: &Catalogue,
         lines: &[Line<'_>],
@@ -310,10 +316,10 @@ impl<L: Ledger + Naming, B: FederateAmbassador, P: Publisher<L>> Cast<L, B, P> {
 }
 
 /// Does the lines of a script one after another. What all leave behind; an error is want of memory outside the steps.
-fn play_lines<L: Ledger + Naming, B: FederateAmbassador, P: Publisher<L>>(
+fn play_lines<L: Ledger + Naming, B: FederateAmbassador, P: Publisher<L>, F: Execution>(
     rt: &impl Wait,
     alloc: Global,
-    rti: &mut Rti<L, B, P>,
+    rti: &mut Rti<L, B, P, F>,
     fed: &[u8],
     catalogue: &Catalogue,
     lines: &[Line<'_>],
@@ -340,10 +346,16 @@ fn play_lines<L: Ledger + Naming, B: FederateAmbassador, P: Publisher<L>>(
 /// Does the lines of a script one after another, writes how they came out, and closes. Where `is_watched`, a monitor is there from
 /// before the first step on, and reads the counts once all is done. `Memory`, and nothing written, where a growth was
 /// refused outside the steps or no monitor is to be had; else `Memory`, `Write`, `Close` or `Monitor` as of `close_seen`.
-fn tell_in_order<L: Ledger + Naming, B: FederateAmbassador, P: Publisher<L>, W: Write>(
+fn tell_in_order<
+    L: Ledger + Naming,
+    B: FederateAmbassador,
+    P: Publisher<L>,
+    F: Execution,
+    W: Write,
+>(
     rt: &impl Wait,
     alloc: Global,
-    mut rti: Rti<L, B, P>,
+    mut rti: Rti<L, B, P, F>,
     fed: &[u8],
     catalogue: &Catalogue,
     lines: &[Line<'_>],
@@ -393,12 +405,13 @@ fn tell_in_order<L: Ledger + Naming, B: FederateAmbassador, P: Publisher<L>, W: 
 
 /// Plays a script over a FED file behind the lock of a run-time infrastructure, line by line on one thread, in an execution
 /// named `play`: what it asks for is what it asks for of `hla_script::play`. Then it writes how each line came out, and closes.
+/// `F` is how executions are kept, as `Federation` of `hla_federation` is.
 /// `blank` is a ledger of 2,049 parts and `opened` an empty history, as `open_rti` takes them. `ambassadors` have heard nothing:
 /// each line that joins uses up the next, also where it is refused. `Fed` or else `Script` with the first fault of the texts, or
 /// else `Ambassadors` where there are fewer than `joins` of the lines, with nothing written and no step done; `Memory` where a
 /// growth was refused outside the steps; `Write` only where the writer has failed; and `Close` where the infrastructure does
 /// not close.
-pub fn run_in_order<L: Ledger + Naming, B: FederateAmbassador, R: Wait, W: Write>(
+pub fn run_in_order<L: Ledger + Naming, B: FederateAmbassador, F: Execution, R: Wait, W: Write>(
     rt: &R,
     alloc: Global,
     blank: Blank,
@@ -430,7 +443,7 @@ pub fn run_in_order<L: Ledger + Naming, B: FederateAmbassador, R: Wait, W: Write
     // A write has failed where that is answered, and nowhere else.
     ensures failure { out.new.has_failed ≡ (out.old.has_failed || is_unwritten_run result) }
 {
-    let ran = run_in_order_within::<L, B, R, W>(
+    let ran = run_in_order_within::<L, B, F, R, W>(
         rt,
         alloc,
         blank,
@@ -453,7 +466,13 @@ pub fn run_in_order<L: Ledger + Naming, B: FederateAmbassador, R: Wait, W: Write
 /// counts once all is done; then `Memory` also where there is none to be had, and `Monitor` where what it read are not the counts
 /// of a beginning of the history.
 #[tactic(auto, using(crate::proofs::StopLemmas::ends_in_order))]
-pub fn run_in_order_within<L: Ledger + Naming, B: FederateAmbassador, R: Wait, W: Write>(
+pub fn run_in_order_within<
+    L: Ledger + Naming,
+    B: FederateAmbassador,
+    F: Execution,
+    R: Wait,
+    W: Write,
+>(
     rt: &R,
     alloc: Global,
     blank: Blank,
@@ -490,7 +509,7 @@ pub fn run_in_order_within<L: Ledger + Naming, B: FederateAmbassador, R: Wait, W
     ensures failure { out.new.has_failed ≡ (out.old.has_failed || is_unwritten_run result) }
 {
     let Texts { catalogue, script } = read_texts(alloc, fed, script, ambassadors.len())?;
-    let Ok(rti) = open_rti::<L, B, &R>(alloc, rt, blank, opened, history_limit) else {
+    let Ok(rti) = open_rti::<L, B, F, &R>(alloc, rt, blank, opened, history_limit) else {
         return Err(RunFault::Memory);
     };
     tell_in_order(

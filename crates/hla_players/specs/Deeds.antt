@@ -10,7 +10,7 @@ use Rattle.hla_machine.specs.declared.step.Outcome.{Outcome}
 use Rattle.hla_machine.specs.declared.step.Outcome.TheVariants as outcome
 use Rattle.hla_machine.specs.declared.step.Step.TheVariants as step
 use Rattle.hla_requests.specs.Requests.{service_of}
-use Rattle.hla_rti.specs.Callers.{Caller, FederateCaller, HasActed, HasNotActed, answer_given}
+use Rattle.hla_callers.specs.Callers.{Caller, FederateCaller, HasActed, HasNotActed, answer_given}
 use Rattle.hla_players.specs.declared.player.Player.{Player}
 use Rattle.hla_players.specs.declared.player.Player.TheVariants as player
 use Rattle.hla_players.specs.declared.player.Deed.{Deed}
@@ -25,7 +25,7 @@ IsDeedOf c call (deed.Refused e) = (service_of c call ≡ Err e) ⊎ (e ≡ faul
 
 -- ---- who does it
 -- the caller that a federate of a script is, or was
-abbrev pub caller_of : {L B P : Type 0} → Player L B P → Caller
+abbrev pub caller_of : {L B P F : Type 0} → Player L B P F → Caller
 caller_of (player.Joined f) = f.caller
 caller_of (player.Gone l) = l.caller
 
@@ -43,10 +43,10 @@ HasDone old name f (deed.Serve s) out new = HasTold old name (act.Step (step.Cal
 HasDone old name f (deed.Refused e) out new = (out ≡ outcome.Refused e) × (new ≡ old)
 
 -- it is the same federate while it is joined
-abbrev pub StaysAs : {L B P : Type 0} → FederateCaller → Player L B P → Type 0
+abbrev pub StaysAs : {L B P F : Type 0} → FederateCaller → Player L B P F → Type 0
 StaysAs old (player.Joined m) = (m.federate ≡ old.federate) × (m.execution ≡ old.execution)
 StaysAs old (player.Gone l) = Unit {0}
 
 -- a joined federate has done a deed
-abbrev pub DoesDeed : {L B P : Type 0} → FederateCaller → Deed → Outcome → Player L B P → Type 0
+abbrev pub DoesDeed : {L B P F : Type 0} → FederateCaller → Deed → Outcome → Player L B P F → Type 0
 DoesDeed old what out new = HasDone old.caller old.execution old.federate what out (caller_of new) × StaysAs old new

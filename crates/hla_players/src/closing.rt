@@ -3,16 +3,17 @@
 ghost use Rattle.std.specs.Prelude.{◌≡◌, ◌||◌, IfOk, OnOk, IfErr, is_some};
 ghost use Rattle.hla_base.specs.Limits.{ledger_parts};
 ghost use Rattle.std.specs.Io.KnownBytes.{Appends};
-ghost use Rattle.hla_rti.specs.Close.{AllAgree};
+ghost use Rattle.hla_callers.specs.Close.{AllAgree};
 ghost use Rattle.hla_outcomes.specs.Running.{IsSeen, StopsText, told_text, is_unwritten_run};
 
 use crate::watching::{Ran, is_seen};
 use hla_callbacks::FederateAmbassador;
 use hla_catalogue::Catalogue;
 use hla_commands::Line;
+use hla_execution::Execution;
+use hla_interface::{Closed, Left, NotClosed, Rti};
 use hla_monitor::{Naming, Publisher, Status};
 use hla_outcomes::{Outcomes, RunFault, write_outcomes};
-use hla_rti::{Closed, Left, NotClosed, Rti};
 use hla_transcript::Watched;
 use std::alloc::Global;
 use std::io::Write;
@@ -20,8 +21,8 @@ use std::sync::Wait;
 use std::sync::ledger::Ledger;
 
 /// Why a run did not close. What came back is let go.
-fn close_fault<L: Ledger + Naming, B: FederateAmbassador, P: Publisher<L>>(
-    not_closed: NotClosed<L, B, P>,
+fn close_fault<L: Ledger + Naming, B: FederateAmbassador, P: Publisher<L>, F: Execution>(
+    not_closed: NotClosed<L, B, P, F>,
 ) -> RunFault
     ensures { result ≡ RunFault.Close not_closed.fault }
 {
@@ -31,10 +32,16 @@ fn close_fault<L: Ledger + Naming, B: FederateAmbassador, P: Publisher<L>>(
 /// Writes how those lines came out that were done, and closes. `Memory` where a growth was refused for the text; `Write` only
 /// where the writer has failed, and then a beginning of the text is written; `Close` where the infrastructure does not close.
 /// After a fault the infrastructure is let go.
-pub fn close_told<L: Ledger + Naming, B: FederateAmbassador, P: Publisher<L>, W: Write>(
+pub fn close_told<
+    L: Ledger + Naming,
+    B: FederateAmbassador,
+    P: Publisher<L>,
+    F: Execution,
+    W: Write,
+>(
     rt: &impl Wait,
     alloc: Global,
-    rti: Rti<L, B, P>,
+    rti: Rti<L, B, P, F>,
     lefts: Vec<Left<L, B>>,
     catalogue: &Catalogue,
     lines: &[Line<'_>],
@@ -62,10 +69,16 @@ pub fn close_told<L: Ledger + Naming, B: FederateAmbassador, P: Publisher<L>, W:
 
 /// Writes and closes as `close_told` does, beside a monitor that has read this last, if one has watched; and `Monitor` where that
 /// are not the counts of a beginning of the history.
-pub fn close_seen<L: Ledger + Naming, B: FederateAmbassador, P: Publisher<L>, W: Write>(
+pub fn close_seen<
+    L: Ledger + Naming,
+    B: FederateAmbassador,
+    P: Publisher<L>,
+    F: Execution,
+    W: Write,
+>(
     rt: &impl Wait,
     alloc: Global,
-    rti: Rti<L, B, P>,
+    rti: Rti<L, B, P, F>,
     lefts: Vec<Left<L, B>>,
     catalogue: &Catalogue,
     lines: &[Line<'_>],

@@ -9,26 +9,27 @@ use hla_base::Fault;
 use hla_callbacks::FederateAmbassador;
 use hla_catalogue::Catalogue;
 use hla_commands::Call;
+use hla_execution::Execution;
+use hla_interface::{Federate, Left};
 use hla_machine::{Answer, Outcome, ResignAction, Service};
 use hla_monitor::{Naming, Publisher};
 use hla_outcomes::{outcome_of, outcome_of_tick};
 use hla_requests::{AskFault, service_of};
-use hla_rti::{Federate, Left};
 use std::alloc::Global;
 use std::sync::Wait;
 use std::sync::ledger::Ledger;
 
 /// A federate of a script: joined, or what it left behind when it resigned.
 #[derive(Drop)]
-pub enum Player<L: Ledger + Naming, B: FederateAmbassador, P: Publisher<L>> {
-    Joined(Federate<L, B, P>),
+pub enum Player<L: Ledger + Naming, B: FederateAmbassador, P: Publisher<L>, F: Execution> {
+    Joined(Federate<L, B, P, F>),
     Gone(Left<L, B>),
 }
 
 /// A federate of a script, and how the line that it has done came out.
 #[derive(Drop)]
-pub struct Acted<L: Ledger + Naming, B: FederateAmbassador, P: Publisher<L>> {
-    pub player: Player<L, B, P>,
+pub struct Acted<L: Ledger + Naming, B: FederateAmbassador, P: Publisher<L>, F: Execution> {
+    pub player: Player<L, B, P, F>,
     pub outcome: Outcome,
 }
 
@@ -56,11 +57,11 @@ impl Deed {
 }
 
 /// Resigns: the federate is gone where it is not refused.
-fn resign<L: Ledger + Naming, B: FederateAmbassador, P: Publisher<L>>(
+fn resign<L: Ledger + Naming, B: FederateAmbassador, P: Publisher<L>, F: Execution>(
     rt: &impl Wait,
-    federate: Federate<L, B, P>,
+    federate: Federate<L, B, P, F>,
     action: ResignAction,
-) -> Acted<L, B, P>
+) -> Acted<L, B, P, F>
     ensures { DoesDeed federate (deed.Serve (service.Resign action)) result.outcome result.player }
 {
     match federate.resign(rt, action) {
@@ -76,11 +77,11 @@ fn resign<L: Ledger + Naming, B: FederateAmbassador, P: Publisher<L>>(
 }
 
 /// Calls a service.
-fn serve<L: Ledger + Naming, B: FederateAmbassador, P: Publisher<L>>(
+fn serve<L: Ledger + Naming, B: FederateAmbassador, P: Publisher<L>, F: Execution>(
     rt: &impl Wait,
-    mut federate: Federate<L, B, P>,
+    mut federate: Federate<L, B, P, F>,
     service: Service,
-) -> Acted<L, B, P>
+) -> Acted<L, B, P, F>
     ensures { DoesDeed federate (deed.Serve service) result.outcome result.player }
 {
     if let Service::Resign { action } = &service {
@@ -96,11 +97,11 @@ fn serve<L: Ledger + Naming, B: FederateAmbassador, P: Publisher<L>>(
 }
 
 /// Does what a line asks of a joined federate; a tick picks up one callback.
-pub fn do_deed<L: Ledger + Naming, B: FederateAmbassador, P: Publisher<L>>(
+pub fn do_deed<L: Ledger + Naming, B: FederateAmbassador, P: Publisher<L>, F: Execution>(
     rt: &impl Wait,
-    mut federate: Federate<L, B, P>,
+    mut federate: Federate<L, B, P, F>,
     deed: Deed,
-) -> Acted<L, B, P>
+) -> Acted<L, B, P, F>
     ensures { DoesDeed federate deed result.outcome result.player }
 {
     match deed {
@@ -119,7 +120,7 @@ pub fn do_deed<L: Ledger + Naming, B: FederateAmbassador, P: Publisher<L>>(
     }
 }
 
-impl<L: Ledger + Naming, B: FederateAmbassador, P: Publisher<L>> Player<L, B, P> {
+impl<L: Ledger + Naming, B: FederateAmbassador, P: Publisher<L>, F: Execution> Player<L, B, P, F> {
     /// Ends the caller: what it leaves behind. A federate that has not resigned stays joined.
     pub fn leave(self) -> Left<L, B>
         ensures { result.caller ≡ caller_of self }

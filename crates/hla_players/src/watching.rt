@@ -5,10 +5,11 @@ ghost use Rattle.hla_outcomes.specs.Running.{CountsBeginning, IsSeen};
 
 use hla_base::Fault;
 use hla_callbacks::FederateAmbassador;
+use hla_execution::Execution;
+use hla_interface::{Closed, Rti};
 use hla_machine::Record;
 use hla_monitor::{Monitor, Naming, Publisher, Status};
 use hla_outcomes::RunFault;
-use hla_rti::{Closed, Rti};
 use std::sync::Wait;
 use std::sync::ledger::Ledger;
 
@@ -22,9 +23,9 @@ pub struct Ran {
 }
 
 /// A monitor, where one is to watch. `LimitReached` as of `Rti::monitor`.
-pub fn watcher<L: Ledger + Naming, B: FederateAmbassador, P: Publisher<L>>(
+pub fn watcher<L: Ledger + Naming, B: FederateAmbassador, P: Publisher<L>, F: Execution>(
     rt: &impl Wait,
-    rti: &mut Rti<L, B, P>,
+    rti: &mut Rti<L, B, P, F>,
     is_watched: bool,
 ) -> Result<Option<Monitor<L>>, Fault>
     ensures watched { IfOk result (λ m. is_some m ≡ is_watched) }

@@ -13,8 +13,9 @@ ghost use Rattle.hla_program.specs.declared.finding.Finding.TheVariants as found
 use crate::finding::{Finding, finding_of, tell_finding};
 use crate::telling::{tell_out_of_memory, tell_run_stop};
 use hla_callbacks::Recorder;
+use hla_federation::Federation;
+use hla_interface::Closed;
 use hla_monitor::{Naming, Opened, Status};
-use hla_rti::Closed;
 use hla_run::{OpenGate, Ran, RunFault, recorders, run_scripts};
 use hla_script::Watched;
 use std::alloc::Global;
@@ -90,7 +91,7 @@ fn run_recorded<L: Ledger + Naming + Send + Sync, R: Threads + Wait + Sync, W: W
         opened,
     } = means;
     match recorders(alloc, script) {
-        Ok(own) => run_scripts::<L, Recorder, OpenGate, R, W>(
+        Ok(own) => run_scripts::<L, Recorder, Federation, OpenGate, R, W>(
             rt, alloc, blank, opened, fed, script, own, &OpenGate, is_watched, out,
         ),
         Err(_) => Err(RunFault::Memory),

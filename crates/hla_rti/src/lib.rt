@@ -1,20 +1,56 @@
 //! The run-time infrastructure behind one lock: federates and other callers, each with a transcript of its own acts.
+//!
+//! Its calls are those of `hla_interface`, which says what each does over whatever executions are kept; here they are kept as
+//! `Federation` of `hla_federation`.
 #![tactic(auto)]
 
-mod answers;
-mod closing;
-mod courier;
-mod federate;
-mod object_services;
-mod rti;
-mod support_services;
-mod synchronization_services;
-mod time_services;
+ghost use Rattle.std.specs.Prelude.{◌≡◌, ◌<◌, ◌≤◌, ◌⊎◌, IfOk, IfErr, OnOk};
+ghost use Rattle.hla_base.specs.Limits.{ledger_parts, max_history_limit};
+ghost use Rattle.hla_callers.specs.Callers.{new_caller};
 
-pub use answers::Registration;
-pub use closing::NotClosed;
-pub use courier::Courier;
-pub use federate::Federate;
-pub use hla_base::{LEDGER_PARTS, MAX_CALLERS, MAX_COURIERS, MAX_HISTORY_LIMIT};
-pub use hla_callers::{CloseFault, Closed, Left, Seat, Unsettled, settle};
-pub use rti::{Rti, open_rti};
+use hla_base::Fault;
+use hla_callbacks::FederateAmbassador;
+use hla_federation::Federation;
+pub use hla_interface::{
+    CloseFault, Closed, LEDGER_PARTS, Left, MAX_CALLERS, MAX_COURIERS, MAX_HISTORY_LIMIT,
+    Registration, Seat, Unsettled, settle,
+};
+use hla_monitor::{Naming, Opened, Published};
+use std::alloc::Global;
+use std::sync::Wait;
+use std::sync::ledger::{Blank, Ledger};
+
+/// The run-time infrastructure: `hla_interface::Rti` over federations.
+pub type Rti<L, B, W> = hla_interface::Rti<L, B, W, Federation>;
+
+/// A joined federate, whose calls are the services of HLA 1.3: `hla_interface::Federate` over federations.
+pub type Federate<L, B, W> = hla_interface::Federate<L, B, W, Federation>;
+
+/// A caller that moves what is on the wires between federates: `hla_interface::Courier` over federations.
+pub type Courier<L, B, W> = hla_interface::Courier<L, B, W, Federation>;
+
+/// What `Rti::close` gives back where it does not close: `hla_interface::NotClosed` over federations.
+pub type NotClosed<L, B, W> = hla_interface::NotClosed<L, B, W, Federation>;
+
+/// The infrastructure with monitors that are read without a lock, as `Rti::new` makes it over the board of
+/// `hla_monitor::open_board`. Publishing waits by the handle `R`. `LimitReached` where the limit is above `MAX_HISTORY_LIMIT`;
+/// `OutOfMemory` where a growth was refused.
+pub fn open_rti<L: Ledger + Naming, B: FederateAmbassador, R: Wait + Drop>(
+    alloc: Global,
+    rt: R,
+    blank: Blank,
+    opened: Opened,
+    history_limit: usize,
+) -> Result<Rti<L, B, Published<L, R>>, Fault>
+    requires name { blank.name ≡ L.name }
+    requires parts { blank.parts ≡ L.parts }
+    requires all { blank.parts ≡ ledger_parts }
+    requires book { opened.seen.book ≡ L.book }
+    ensures ok { IfOk result (λ r. r ≡ record { handed = 0; couriers = 0; own = new_caller 0 }) }
+    ensures limit { OnOk result (history_limit ≤ max_history_limit) }
+    ensures err { IfErr result
+        (λ e. ((e ≡ Fault.LimitReached) × (max_history_limit < history_limit))
+        ⊎ (e ≡ Fault.OutOfMemory)) }
+{
+    hla_interface::open_rti::<L, B, Federation, R>(alloc, rt, blank, opened, history_limit)
+}

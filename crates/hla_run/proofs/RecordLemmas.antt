@@ -25,8 +25,8 @@ use Rattle.hla_machine.specs.declared.step.Outcome.TheVariants as outcome
 use Rattle.hla_machine.specs.declared.step.Record.{Record}
 use Rattle.hla_machine.specs.declared.step.Step.TheVariants as step
 use Rattle.hla_requests.specs.Requests.{service_of}
-use Rattle.hla_rti.specs.Callers.{Caller, FederateCaller, Leaver, HasActed, HasAnswered, HasNotActed, answer_given, nothing, said}
-use Rattle.hla_rti.specs.Close.{Agrees, AllAgree}
+use Rattle.hla_callers.specs.Callers.{Caller, FederateCaller, Leaver, HasActed, HasAnswered, HasNotActed, answer_given, nothing, said}
+use Rattle.hla_callers.specs.Close.{Agrees, AllAgree}
 use Rattle.hla_players.specs.Deeds.{HasTold, DoesDeed, IsDeedOf, StaysAs, caller_of}
 use Rattle.hla_run.specs.Recorded.{act_of_call, HasAnswerOf, HasJoined, IsOfficeRecorded, IsJoiningRecorded, IsActRecorded, IsCallRecorded, IsNamedCallRecorded, IsUnmade, IsLineRecorded, IsTellingRecorded, AreTellingsRecorded, IsOwnTelling, AreOwnTellings, AreOutcomesRecorded, HasExtended, IsTranscriptIn, AreTranscriptsIn, IsCallAt, IsFresh, AreFresh, AreJoined, IsLifeOf, IsLifeRecorded, IsPlayerAs, NeedsNoRecord, KeepsRecorded, KeepsOffice, IsOfficeLine, LeavesBehind, GathersRecorded, RecordsTold, IsToldRecorded, IsRunRecorded}
 use Rattle.hla_outcomes.specs.Running.{AreAllDone, told_text, with_line_noted, with_lines_noted}
@@ -175,8 +175,8 @@ done_recorded records execution a out given is h = elim h [
 pub call_of : (c : CatalogueValue) (records : List Record) (e execution : List ℕ) (f g : ℕ) (call : Call) (out : Outcome) → e ≡ execution → f ≡ g → IsCallRecorded c records e f call out → IsCallRecorded c records execution g call out
 call_of c records e execution f g call out same number h = subst (λ (n : ℕ). IsCallRecorded c records execution n call out) number (subst (λ (x : List ℕ). IsCallRecorded c records x f call out) same h)
 
-module _ {L B P : Type 0} where
-  pub deed_recorded : (c : CatalogueValue) (call : Call) (m : FederateCaller) (d : Deed) (out : Outcome) (p : Player L B P) → IsDeedOf c call d → DoesDeed m d out p
+module _ {L B P F : Type 0} where
+  pub deed_recorded : (c : CatalogueValue) (call : Call) (m : FederateCaller) (d : Deed) (out : Outcome) (p : Player L B P F) → IsDeedOf c call d → DoesDeed m d out p
       → HasExtended m.caller (caller_of p) × IsCallRecorded c (caller_of p).transcript m.execution m.federate call out
   deed_recorded c call m deed.Tick out p asks done =
       let both = told_recorded m.caller (caller_of p) m.execution _ out done.0 in
@@ -188,7 +188,7 @@ module _ {L B P : Type 0} where
       (grown_same m.caller (caller_of p) done.0.1, inr (e, done.0.0, elim asks [ inl unknown ↦ inl unknown | inr memory ↦ inr (inr (inl memory)) ]))
 
   -- a federate stays the same while it is joined
-  pub player_stays : (execution : List ℕ) (f : ℕ) (m : FederateCaller) (p : Player L B P) → StaysAs m p → (m.execution ≡ execution) × (m.federate ≡ f) → IsPlayerAs execution f p
+  pub player_stays : (execution : List ℕ) (f : ℕ) (m : FederateCaller) (p : Player L B P F) → StaysAs m p → (m.execution ≡ execution) × (m.federate ≡ f) → IsPlayerAs execution f p
   player_stays execution f m (player.Joined n) stays was = (stays.1 ∙ was.0, stays.0 ∙ was.1)
   player_stays execution f m (player.Gone l) stays was = tt
 
@@ -279,13 +279,13 @@ left_behind old mid new first second c one two own = λ history all.
       subst (λ (x : Caller). IsTranscriptIn history x.transcript) own (All-contains within (old ++ first ∷ []) first some (Contains-push old first)),
     )
 
-module _ {L B P : Type 0} where
-  pub gathered_more : (lives : List (Life L B P)) (life : Life L B P) (some all : List Leaver) (old mid new : List (Option Outcome)) → GathersRecorded lives some old mid → new ≡ with_lines_noted mid life.told.items
+module _ {L B P F : Type 0} where
+  pub gathered_more : (lives : List (Life L B P F)) (life : Life L B P F) (some all : List Leaver) (old mid new : List (Option Outcome)) → GathersRecorded lives some old mid → new ≡ with_lines_noted mid life.told.items
       → LeavesBehind some (caller_of life.player) all → GathersRecorded (lives ++ life ∷ []) all old new
   gathered_more lives life some all old mid new before noted behind = λ c lines execution history recorded joined lefts outcomes.
       let left = behind history lefts in
-      let Recorded : Life L B P → Type 0 = IsLifeRecorded c lines execution in
-      let Joined : Life L B P → Type 0 = λ (x : Life L B P). HasJoined history execution x.name x.number in
+      let Recorded : Life L B P F → Type 0 = IsLifeRecorded c lines execution in
+      let Joined : Life L B P F → Type 0 = λ (x : Life L B P F). HasJoined history execution x.name x.number in
       let others : All Recorded lives = λ k d below. All-contains Recorded (lives ++ life ∷ []) (get_or lives k d) recorded (Contains-append_left lives (life ∷ []) (get_or lives k d) (Contains-get_or lives k d below)) in
       let others_joined : All Joined lives = λ k d below. All-contains Joined (lives ++ life ∷ []) (get_or lives k d) joined (Contains-append_left lives (life ∷ []) (get_or lives k d) (Contains-get_or lives k d below)) in
       let own : Recorded life = All-contains Recorded (lives ++ life ∷ []) life recorded (Contains-push lives life) in
@@ -294,30 +294,30 @@ module _ {L B P : Type 0} where
       let tellings = tellings_named c lines history (caller_of life.player).transcript execution life.number life.name life.told.items own_joined left.1 own.1 in
       subst (λ (os : List (Option Outcome)). AreOutcomesRecorded c lines history os) (sym noted) (all_noted_recorded c lines history life.told.items mid so_far tellings)
 
-  pub gathered_all_of : (some all : List (Life L B P)) (lefts : List Leaver) (old new : List (Option Outcome)) → some ≡ all → GathersRecorded some lefts old new → GathersRecorded all lefts old new
-  gathered_all_of some all lefts old new same h = subst (λ (ls : List (Life L B P)). GathersRecorded ls lefts old new) same h
+  pub gathered_all_of : (some all : List (Life L B P F)) (lefts : List Leaver) (old new : List (Option Outcome)) → some ≡ all → GathersRecorded some lefts old new → GathersRecorded all lefts old new
+  gathered_all_of some all lefts old new same h = subst (λ (ls : List (Life L B P F)). GathersRecorded ls lefts old new) same h
 
   -- a life that tells nothing yet
-  pub fresh_recorded : (c : CatalogueValue) (lines : List Line) (execution : List ℕ) (life : Life L B P) → IsFresh execution life → IsLifeRecorded c lines execution life
+  pub fresh_recorded : (c : CatalogueValue) (lines : List Line) (execution : List ℕ) (life : Life L B P F) → IsFresh execution life → IsLifeRecorded c lines execution life
   fresh_recorded c lines execution life fresh = (
     fresh.0,
     subst (λ (told : List LineOutcome). AreOwnTellings c lines (caller_of life.player).transcript execution life.number life.name told) (sym fresh.1) (λ k d below. absurd (omega (arith, below))),
   )
 
   -- ---- who has joined
-  pub fresh_more : (execution : List ℕ) (lives : List (Life L B P)) (life : Life L B P) → AreFresh execution lives → IsFresh execution life → AreFresh execution (lives ++ life ∷ [])
+  pub fresh_more : (execution : List ℕ) (lives : List (Life L B P F)) (life : Life L B P F) → AreFresh execution lives → IsFresh execution life → AreFresh execution (lives ++ life ∷ [])
   fresh_more execution lives life before fresh = All-push (IsFresh execution) lives life before fresh
 
-  pub joined_in : (history records : List Record) (execution : List ℕ) (lives : List (Life L B P)) → IsTranscriptIn history records → AreJoined records execution lives → AreJoined history execution lives
+  pub joined_in : (history records : List Record) (execution : List ℕ) (lives : List (Life L B P F)) → IsTranscriptIn history records → AreJoined records execution lives → AreJoined history execution lives
   joined_in history records execution lives within h = λ k d below.
       let life = get_or lives k d in
       answer_in history records execution (act.Step (step.Join life.name)) (Ok (answer.Federate life.number)) within (h k d below)
 
-  pub joined_more : (records : List Record) (execution : List ℕ) (lives : List (Life L B P)) (life : Life L B P) → AreJoined records execution lives → HasJoined records execution life.name life.number → AreJoined records execution (lives ++ life ∷ [])
-  joined_more records execution lives life before own = All-push (λ (x : Life L B P). HasJoined records execution x.name x.number) lives life before own
+  pub joined_more : (records : List Record) (execution : List ℕ) (lives : List (Life L B P F)) (life : Life L B P F) → AreJoined records execution lives → HasJoined records execution life.name life.number → AreJoined records execution (lives ++ life ∷ [])
+  joined_more records execution lives life before own = All-push (λ (x : Life L B P F). HasJoined records execution x.name x.number) lives life before own
 
   -- the lives of the same federates
-  pub joined_same : (records : List Record) (execution : List ℕ) (old new : Life L B P) → IsLifeOf old new → HasJoined records execution old.name old.number → HasJoined records execution new.name new.number
+  pub joined_same : (records : List Record) (execution : List ℕ) (old new : Life L B P F) → IsLifeOf old new → HasJoined records execution old.name old.number → HasJoined records execution new.name new.number
   joined_same records execution old new same h =
       subst (λ (n : ℕ). HasJoined records execution new.name n) (sym same.1) (subst (λ (name : List ℕ). HasJoined records execution name old.number) (sym same.0) h)
 

@@ -18,7 +18,7 @@ use Rattle.hla_machine.specs.declared.step.Outcome.TheVariants as outcome
 use Rattle.hla_machine.specs.declared.step.Record.{Record}
 use Rattle.hla_machine.specs.declared.step.Step.TheVariants as step
 use Rattle.hla_requests.specs.Requests.{service_of}
-use Rattle.hla_rti.specs.Callers.{Caller, Leaver, answer_given}
+use Rattle.hla_callers.specs.Callers.{Caller, Leaver, answer_given}
 use Rattle.hla_players.specs.Deeds.{caller_of}
 use Rattle.hla_outcomes.specs.Running.{AreTold, IsRunFrom}
 use Rattle.hla_run.specs.declared.life.Life.{Life}
@@ -120,28 +120,28 @@ abbrev pub AreOwnTellings : CatalogueValue → List Line → List Record → Lis
 AreOwnTellings c lines records execution f name told = All (IsOwnTelling c lines records execution f name) told
 
 -- while it is joined it is this federate of the execution
-abbrev pub IsPlayerAs : {L B P : Type 0} → List ℕ → ℕ → Player L B P → Type 0
+abbrev pub IsPlayerAs : {L B P F : Type 0} → List ℕ → ℕ → Player L B P F → Type 0
 IsPlayerAs execution f (player.Joined m) = (m.execution ≡ execution) × (m.federate ≡ f)
 IsPlayerAs execution f (player.Gone l) = Unit {0}
 
 -- what a federate's life tells is told of its own lines, and is in its own transcript
-abbrev pub IsLifeRecorded : {L B P : Type 0} → CatalogueValue → List Line → List ℕ → Life L B P → Type 0
+abbrev pub IsLifeRecorded : {L B P F : Type 0} → CatalogueValue → List Line → List ℕ → Life L B P F → Type 0
 IsLifeRecorded c lines execution life =
     IsPlayerAs execution life.number life.player × AreOwnTellings c lines (caller_of life.player).transcript execution life.number life.name life.told.items
 
 -- it is the life of the same federate
-abbrev pub IsLifeOf : {L B P : Type 0} → Life L B P → Life L B P → Type 0
+abbrev pub IsLifeOf : {L B P F : Type 0} → Life L B P F → Life L B P F → Type 0
 IsLifeOf old new = (new.name ≡ old.name) × (new.number ≡ old.number)
 
 -- a life that tells nothing yet
-abbrev pub IsFresh : {L B P : Type 0} → List ℕ → Life L B P → Type 0
+abbrev pub IsFresh : {L B P F : Type 0} → List ℕ → Life L B P F → Type 0
 IsFresh execution life = IsPlayerAs execution life.number life.player × (life.told.items ≡ [])
 
-abbrev pub AreFresh : {L B P : Type 0} → List ℕ → List (Life L B P) → Type 0
+abbrev pub AreFresh : {L B P F : Type 0} → List ℕ → List (Life L B P F) → Type 0
 AreFresh execution lives = All (IsFresh execution) lives
 
 -- by the records each has joined under its name, and has its number
-abbrev pub AreJoined : {L B P : Type 0} → List Record → List ℕ → List (Life L B P) → Type 0
+abbrev pub AreJoined : {L B P F : Type 0} → List Record → List ℕ → List (Life L B P F) → Type 0
 AreJoined records execution lives = All (λ life. HasJoined records execution life.name life.number) lives
 
 -- the caller has added records to its transcript, or none
@@ -176,7 +176,7 @@ abbrev pub IsOfficeLine : Caller → Command → Outcome → Type 0
 IsOfficeLine own command out = (c : CatalogueValue) → IsLineRecorded c own.transcript command out
 
 -- what lives told was added to what was told before, and they left their transcripts behind
-abbrev pub GathersRecorded : {L B P : Type 0} → List (Life L B P) → List Leaver → List (Option Outcome) → List (Option Outcome) → Type 0
+abbrev pub GathersRecorded : {L B P F : Type 0} → List (Life L B P F) → List Leaver → List (Option Outcome) → List (Option Outcome) → Type 0
 GathersRecorded lives lefts old new =
     (c : CatalogueValue) (lines : List Line) (execution : List ℕ) (history : List Record) → All (IsLifeRecorded c lines execution) lives → AreJoined history execution lives → AreTranscriptsIn history lefts → AreOutcomesRecorded c lines history old
     → AreOutcomesRecorded c lines history new

@@ -10,11 +10,12 @@ use hla_base::{ExecutionName, Fault, FederateNo, List};
 use hla_callbacks::FederateAmbassador;
 use hla_catalogue::Catalogue;
 use hla_commands::{Call, Command, Line};
+use hla_execution::Execution;
+use hla_interface::{Courier, Federate};
 use hla_machine::{Answer, Carried, Outcome};
 use hla_monitor::{Naming, Publisher};
 use hla_players::{Acted, Deed, LineOutcome, Player, do_deed, outcome_of_tick};
 use hla_resting::{Gate, LineWait, Rested, RestingRoom};
-use hla_rti::{Courier, Federate};
 use std::alloc::Global;
 use std::sync::Wait;
 use std::sync::ledger::Ledger;
@@ -37,11 +38,11 @@ pub struct Stage<'a, G: Gate> {
 
 /// A federate that joined under a name, with a courier that brings all federates what they send each other.
 #[derive(Drop)]
-pub struct Life<L: Ledger + Naming, B: FederateAmbassador, P: Publisher<L>> {
+pub struct Life<L: Ledger + Naming, B: FederateAmbassador, P: Publisher<L>, F: Execution> {
     pub name: List<u8>,
     pub number: FederateNo,
-    pub player: Player<L, B, P>,
-    pub courier: Courier<L, B, P>,
+    pub player: Player<L, B, P, F>,
+    pub courier: Courier<L, B, P, F>,
     /// How its lines came out, those that are done.
     pub told: Vec<LineOutcome>,
     /// Whether a growth was refused; then its last lines may not be done.
@@ -49,9 +50,9 @@ pub struct Life<L: Ledger + Naming, B: FederateAmbassador, P: Publisher<L>> {
 }
 
 /// Carries each wire that leads from a federate once. Answers whether anything was there.
-fn carry_from<L: Ledger + Naming, B: FederateAmbassador, P: Publisher<L>>(
+fn carry_from<L: Ledger + Naming, B: FederateAmbassador, P: Publisher<L>, F: Execution>(
     rt: &impl Wait,
-    courier: &mut Courier<L, B, P>,
+    courier: &mut Courier<L, B, P, F>,
     execution: ExecutionName,
     from: FederateNo,
     joined: FederateNo,
@@ -68,9 +69,9 @@ fn carry_from<L: Ledger + Naming, B: FederateAmbassador, P: Publisher<L>>(
 
 /// Has each federate announce its promise, and then carries each wire once, by rising numbers. A refusal is in the records. Answers
 /// whether anything was announced or carried.
-fn exchange<L: Ledger + Naming, B: FederateAmbassador, P: Publisher<L>>(
+fn exchange<L: Ledger + Naming, B: FederateAmbassador, P: Publisher<L>, F: Execution>(
     rt: &impl Wait,
-    courier: &mut Courier<L, B, P>,
+    courier: &mut Courier<L, B, P, F>,
     execution: ExecutionName,
     joined: FederateNo,
 ) -> bool {
@@ -88,9 +89,9 @@ fn exchange<L: Ledger + Naming, B: FederateAmbassador, P: Publisher<L>>(
 
 /// Has the federates exchange what they have for each other, so often, or until there is nothing more: then one exchange is
 /// as good as many.
-fn exchange_often<L: Ledger + Naming, B: FederateAmbassador, P: Publisher<L>>(
+fn exchange_often<L: Ledger + Naming, B: FederateAmbassador, P: Publisher<L>, F: Execution>(
     rt: &impl Wait,
-    courier: &mut Courier<L, B, P>,
+    courier: &mut Courier<L, B, P, F>,
     execution: ExecutionName,
     joined: FederateNo,
     exchanges: u64,
@@ -104,10 +105,10 @@ fn exchange_often<L: Ledger + Naming, B: FederateAmbassador, P: Publisher<L>>(
 
 /// What a thread does after a tick with nothing: it rests until a bout has ended. Where all others do so, too, are held or have
 /// ended, it leads the bout, and has the federates exchange what they have for each other.
-fn after_nothing<L: Ledger + Naming, B: FederateAmbassador, P: Publisher<L>, G: Gate>(
+fn after_nothing<L: Ledger + Naming, B: FederateAmbassador, P: Publisher<L>, F: Execution, G: Gate>(
     rt: &impl Wait,
     stage: &Stage<G>,
-    courier: &mut Courier<L, B, P>,
+    courier: &mut Courier<L, B, P, F>,
     seen: u64,
     wait: &mut LineWait,
 ) {
@@ -121,11 +122,17 @@ fn after_nothing<L: Ledger + Naming, B: FederateAmbassador, P: Publisher<L>, G: 
 }
 
 /// Ticks until a callback comes or a tick is refused, at most `MAX_TICKS` times, once a bout.
-fn tick_until_called<L: Ledger + Naming, B: FederateAmbassador, P: Publisher<L>, G: Gate>(
+fn tick_until_called<
+    L: Ledger + Naming,
+    B: FederateAmbassador,
+    P: Publisher<L>,
+    F: Execution,
+    G: Gate,
+>(
     rt: &impl Wait,
     stage: &Stage<G>,
-    federate: &mut Federate<L, B, P>,
-    courier: &mut Courier<L, B, P>,
+    federate: &mut Federate<L, B, P, F>,
+    courier: &mut Courier<L, B, P, F>,
 ) -> Outcome
     ensures execution { federate.new.execution ≡ federate.old.execution }
     ensures federate { federate.new.federate ≡ federate.old.federate }
@@ -147,13 +154,13 @@ fn tick_until_called<L: Ledger + Naming, B: FederateAmbassador, P: Publisher<L>,
 }
 
 /// Does what a line asks of the federate; one that has resigned does nothing any more.
-fn do_call<L: Ledger + Naming, B: FederateAmbassador, P: Publisher<L>, G: Gate>(
+fn do_call<L: Ledger + Naming, B: FederateAmbassador, P: Publisher<L>, F: Execution, G: Gate>(
     rt: &impl Wait,
     stage: &Stage<G>,
-    player: Player<L, B, P>,
-    courier: &mut Courier<L, B, P>,
+    player: Player<L, B, P, F>,
+    courier: &mut Courier<L, B, P, F>,
     call: &Call<'_>,
-) -> Acted<L, B, P>
+) -> Acted<L, B, P, F>
     ensures extended { HasExtended (caller_of player) (caller_of result.player) }
     ensures same { (execution : List ℕ) (f : ℕ) → IsPlayerAs execution f player
         → IsPlayerAs execution f result.player }
@@ -182,7 +189,7 @@ fn do_call<L: Ledger + Naming, B: FederateAmbassador, P: Publisher<L>, G: Gate>(
     }
 }
 
-impl<L: Ledger + Naming, B: FederateAmbassador, P: Publisher<L>> Life<L, B, P> {
+impl<L: Ledger + Naming, B: FederateAmbassador, P: Publisher<L>, F: Execution> Life<L, B, P, F> {
     /// Does the line at a place of the script, between the two calls of the gate. A thread that is in one of these counts as held:
     /// others don't wait for it.
     fn next<G: Gate>(
@@ -192,7 +199,7 @@ impl<L: Ledger + Naming, B: FederateAmbassador, P: Publisher<L>> Life<L, B, P> {
         place: usize,
         line: usize,
         call: &Call<'_>,
-    ) -> Life<L, B, P>
+    ) -> Life<L, B, P, F>
         requires { IsCallAt stage.now.lines.now place self.name call.now }
         ensures same { IsLifeOf self result }
         ensures recorded { (execution : List ℕ)
@@ -225,11 +232,11 @@ impl<L: Ledger + Naming, B: FederateAmbassador, P: Publisher<L>> Life<L, B, P> {
 }
 
 /// Does the federate's lines of the script, in order.
-pub fn live<L: Ledger + Naming, B: FederateAmbassador, P: Publisher<L>, G: Gate>(
+pub fn live<L: Ledger + Naming, B: FederateAmbassador, P: Publisher<L>, F: Execution, G: Gate>(
     rt: &impl Wait,
     stage: &Stage<G>,
-    mut life: Life<L, B, P>,
-) -> Life<L, B, P>
+    mut life: Life<L, B, P, F>,
+) -> Life<L, B, P, F>
     ensures same { IsLifeOf life result }
     ensures recorded { (execution : List ℕ)
         → IsLifeRecorded stage.now.catalogue.now stage.now.lines.now execution life

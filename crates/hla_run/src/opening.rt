@@ -8,10 +8,11 @@ use crate::life::Life;
 use hla_base::{ExecutionName, Fault, List};
 use hla_callbacks::FederateAmbassador;
 use hla_commands::{Command, Line};
+use hla_execution::Execution;
+use hla_interface::Rti;
 use hla_machine::{Answer, Outcome};
 use hla_monitor::{Naming, Publisher};
 use hla_players::{Ambassadors, LineOutcome, Outcomes, Player, outcome_of_done};
-use hla_rti::Rti;
 use std::alloc::Global;
 use std::sync::Wait;
 use std::sync::ledger::Ledger;
@@ -27,14 +28,14 @@ fn copied(alloc: Global, name: &[u8]) -> Result<List<u8>, Fault>
 }
 
 /// Joins a federate with the next ambassador, and gives it a courier. An error is want of memory outside the steps.
-fn join_next<L: Ledger + Naming, B: FederateAmbassador, P: Publisher<L>>(
+fn join_next<L: Ledger + Naming, B: FederateAmbassador, P: Publisher<L>, F: Execution>(
     rt: &impl Wait,
     alloc: Global,
-    rti: &mut Rti<L, B, P>,
+    rti: &mut Rti<L, B, P, F>,
     execution: ExecutionName,
     name: &[u8],
     ambassadors: &mut Ambassadors<B>,
-    lives: &mut Vec<Life<L, B, P>>,
+    lives: &mut Vec<Life<L, B, P, F>>,
 ) -> Result<Outcome, Fault>
     requires { 0 < length ambassadors.old }
     ensures taken { OnOk result (ambassadors.new ≡ drop 1 ambassadors.old) }
@@ -73,15 +74,15 @@ fn join_next<L: Ledger + Naming, B: FederateAmbassador, P: Publisher<L>>(
 }
 
 /// Does a line that creates the execution or joins a federate. An error is want of memory outside the steps.
-fn open_by<L: Ledger + Naming, B: FederateAmbassador, P: Publisher<L>>(
+fn open_by<L: Ledger + Naming, B: FederateAmbassador, P: Publisher<L>, F: Execution>(
     rt: &impl Wait,
     alloc: Global,
-    rti: &mut Rti<L, B, P>,
+    rti: &mut Rti<L, B, P, F>,
     execution: ExecutionName,
     fed: &[u8],
     command: &Command<'_>,
     ambassadors: &mut Ambassadors<B>,
-    lives: &mut Vec<Life<L, B, P>>,
+    lives: &mut Vec<Life<L, B, P, F>>,
 ) -> Result<Option<Outcome>, Fault>
     requires { joins_by command.now ≤ length ambassadors.old }
     ensures taken { OnOk result (ambassadors.new ≡ drop (joins_by command.now) ambassadors.old) }
@@ -107,16 +108,16 @@ fn open_by<L: Ledger + Naming, B: FederateAmbassador, P: Publisher<L>>(
 
 /// Does the lines that create and join, in the order of the script: the federates that joined. `OutOfMemory` where a growth
 /// was refused outside the steps; what was done before stays done and noted.
-pub fn open<L: Ledger + Naming, B: FederateAmbassador, P: Publisher<L>>(
+pub fn open<L: Ledger + Naming, B: FederateAmbassador, P: Publisher<L>, F: Execution>(
     rt: &impl Wait,
     alloc: Global,
-    rti: &mut Rti<L, B, P>,
+    rti: &mut Rti<L, B, P, F>,
     execution: ExecutionName,
     fed: &[u8],
     lines: &[Line<'_>],
     mut ambassadors: Ambassadors<B>,
     outcomes: &mut Outcomes,
-) -> Result<Vec<Life<L, B, P>>, Fault>
+) -> Result<Vec<Life<L, B, P, F>>, Fault>
     requires { joins lines.now ≤ length ambassadors }
     ensures each { OnOk result (length outcomes.new ≡ length outcomes.old) }
     ensures fresh { IfOk result (λ lives. AreFresh execution lives.items) }
@@ -143,9 +144,9 @@ pub fn open<L: Ledger + Naming, B: FederateAmbassador, P: Publisher<L>>(
 }
 
 /// Does the lines that destroy, in the order of the script.
-pub fn destroy<L: Ledger + Naming, B: FederateAmbassador, P: Publisher<L>>(
+pub fn destroy<L: Ledger + Naming, B: FederateAmbassador, P: Publisher<L>, F: Execution>(
     rt: &impl Wait,
-    rti: &mut Rti<L, B, P>,
+    rti: &mut Rti<L, B, P, F>,
     execution: ExecutionName,
     lines: &[Line<'_>],
     outcomes: &mut Outcomes,
@@ -163,16 +164,16 @@ pub fn destroy<L: Ledger + Naming, B: FederateAmbassador, P: Publisher<L>>(
 }
 
 /// Whether a federate has joined under a name.
-fn has_joined<L: Ledger + Naming, B: FederateAmbassador, P: Publisher<L>>(
-    lives: &[Life<L, B, P>],
+fn has_joined<L: Ledger + Naming, B: FederateAmbassador, P: Publisher<L>, F: Execution>(
+    lives: &[Life<L, B, P, F>],
     name: &[u8],
 ) -> bool {
     lives.iter().any(|l| l.name.as_slice() == name)
 }
 
 /// Notes of the lines of federates that have not joined that they make no step.
-pub fn refuse_strangers<L: Ledger + Naming, B: FederateAmbassador, P: Publisher<L>>(
-    lives: &[Life<L, B, P>],
+pub fn refuse_strangers<L: Ledger + Naming, B: FederateAmbassador, P: Publisher<L>, F: Execution>(
+    lives: &[Life<L, B, P, F>],
     lines: &[Line<'_>],
     outcomes: &mut Outcomes,
 )

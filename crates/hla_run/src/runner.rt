@@ -17,12 +17,13 @@ use hla_base::{ExecutionName, Fault, MAX_HISTORY};
 use hla_callbacks::FederateAmbassador;
 use hla_catalogue::Catalogue;
 use hla_commands::Line;
+use hla_execution::Execution;
+use hla_interface::{Left, Rti, open_rti};
 use hla_monitor::{Naming, Opened, Publisher};
 use hla_players::{
     Ambassadors, Outcomes, Ran, RunFault, Texts, close_seen, last_read, read_texts, watcher,
 };
 use hla_resting::{Gate, RestingRoom};
-use hla_rti::{Left, Rti, open_rti};
 use hla_transcript::Watched;
 use std::alloc::Global;
 use std::io::Write;
@@ -33,8 +34,8 @@ use std::thread::Threads;
 
 /// Puts what a federate and its courier leave behind at the end of a list, and notes how its lines came out. `OutOfMemory` where a
 /// growth was refused, or was for the federate while it did its lines; then what of it was put stays.
-fn gather<L: Ledger + Naming, B: FederateAmbassador, P: Publisher<L>>(
-    life: Life<L, B, P>,
+fn gather<L: Ledger + Naming, B: FederateAmbassador, P: Publisher<L>, F: Execution>(
+    life: Life<L, B, P, F>,
     lefts: &mut Vec<Left<L, B>>,
     outcomes: &mut Outcomes,
 ) -> Result<(), Fault>
@@ -61,9 +62,9 @@ fn gather<L: Ledger + Naming, B: FederateAmbassador, P: Publisher<L>>(
 }
 
 /// What all leave behind. `OutOfMemory` where a growth was refused, or was for one of them.
-fn gather_all<L: Ledger + Naming, B: FederateAmbassador, P: Publisher<L>>(
+fn gather_all<L: Ledger + Naming, B: FederateAmbassador, P: Publisher<L>, F: Execution>(
     alloc: Global,
-    lives: Vec<Life<L, B, P>>,
+    lives: Vec<Life<L, B, P, F>>,
     outcomes: &mut Outcomes,
 ) -> Result<Vec<Left<L, B>>, Fault>
     ensures each { OnOk result (length outcomes.new ≡ length outcomes.old) }
@@ -78,8 +79,8 @@ fn gather_all<L: Ledger + Naming, B: FederateAmbassador, P: Publisher<L>>(
 }
 
 /// The number of federates that have joined; each has the number of its joining.
-fn number_of<L: Ledger + Naming, B: FederateAmbassador, P: Publisher<L>>(
-    lives: &[Life<L, B, P>],
+fn number_of<L: Ledger + Naming, B: FederateAmbassador, P: Publisher<L>, F: Execution>(
+    lives: &[Life<L, B, P, F>],
 ) -> u32 {
     match lives.last() {
         Some(life) => life.number,
@@ -93,12 +94,13 @@ fn run_lines<
     L: Ledger + Naming + Send + Sync,
     B: FederateAmbassador + Send,
     P: Publisher<L> + Send,
+    F: Execution + Send,
     G: Gate + Sync,
     R: Threads + Wait + Sync,
 >(
     rt: &R,
     alloc: Global,
-    rti: &mut Rti<L, B, P>,
+    rti: &mut Rti<L, B, P, F>,
     fed: &[u8],
     catalogue: &Catalogue,
     lines: &[Line<'_>],
@@ -125,7 +127,7 @@ fn run_lines<
         joined: number_of(lives.as_slice()),
         room: RestingRoom::new(lives.len()),
     };
-    let lived = |life: Life<L, B, P>| -> Life<L, B, P>
+    let lived = |life: Life<L, B, P, F>| -> Life<L, B, P, F>
         ensures same { IsLifeOf life result }
         ensures recorded { (execution : List ℕ)
             → IsLifeRecorded stage.entry.catalogue.now stage.entry.lines.now execution life
@@ -151,13 +153,14 @@ fn tell_on_threads<
     L: Ledger + Naming + Send + Sync,
     B: FederateAmbassador + Send,
     P: Publisher<L> + Send,
+    F: Execution + Send,
     G: Gate + Sync,
     R: Threads + Wait + Sync,
     W: Write,
 >(
     rt: &R,
     alloc: Global,
-    mut rti: Rti<L, B, P>,
+    mut rti: Rti<L, B, P, F>,
     fed: &[u8],
     catalogue: &Catalogue,
     lines: &[Line<'_>],
@@ -215,7 +218,7 @@ fn tell_on_threads<
 /// the gate holds are waited for, for nearly a second in all of a line's ticks. `gate` is called round each line of a thread.
 /// Then it writes how the lines came out that were done, in the order of the script, and closes. Where `is_watched`, a
 /// monitor is there from before the first step on, and reads the counts once all is done. `blank` is a ledger of 2,049 parts
-/// and `opened` an empty history, as `open_rti` takes them.
+/// and `opened` an empty history, as `open_rti` takes them; `F` is how executions are kept, as `Federation` of `hla_federation` is.
 ///
 /// `ambassadors` have heard nothing: each line that joins uses up the next, also where it is refused.
 ///
@@ -228,6 +231,7 @@ fn tell_on_threads<
 pub fn run_scripts<
     L: Ledger + Naming + Send + Sync,
     B: FederateAmbassador + Send,
+    F: Execution + Send,
     G: Gate + Sync,
     R: Threads + Wait + Sync,
     W: Write,
@@ -274,7 +278,7 @@ pub fn run_scripts<
     ensures failure { out.new.has_failed ≡ (out.old.has_failed || is_unwritten_run result) }
 {
     let Texts { catalogue, script } = read_texts(alloc, fed, script, ambassadors.len())?;
-    let Ok(rti) = open_rti::<L, B, &R>(alloc, rt, blank, opened, MAX_HISTORY) else {
+    let Ok(rti) = open_rti::<L, B, F, &R>(alloc, rt, blank, opened, MAX_HISTORY) else {
         return Err(RunFault::Memory);
     };
     tell_on_threads(

@@ -8,6 +8,7 @@ use crate::texts::{FED, Shown, run, run_on_one_thread};
 use hla_base::LEDGER_PARTS;
 use hla_callbacks::{Callback, Delivery, Recorder};
 use hla_checker::check_run;
+use hla_federation::Federation;
 use hla_in_order::run_in_order;
 use hla_machine::{Answer, Outcome, Record};
 use hla_monitor::{Naming, Opened};
@@ -170,7 +171,7 @@ fn refused<L: Ledger + Naming + Send + Sync, R: Threads + Wait + Abort + Sync>(
 {
     let mut out = Watched::new(Vec::new(alloc));
     let none: Vec<Recorder> = Vec::new(alloc);
-    let ran = run_scripts::<L, Recorder, OpenGate, R, Vec<u8>>(
+    let ran = run_scripts::<L, Recorder, Federation, OpenGate, R, Vec<u8>>(
         rt, alloc, blank, opened, fed, script, none, &OpenGate, false, &mut out,
     );
     let Err(fault) = ran else {
@@ -238,7 +239,7 @@ fn too_few_in_order<L: Ledger + Naming, R: Wait + Abort>(
         panic!(rt; "no memory");
     };
     let mut out = Watched::new(Vec::new(alloc));
-    let ran = run_in_order::<L, Recorder, R, Vec<u8>>(
+    let ran = run_in_order::<L, Recorder, Federation, R, Vec<u8>>(
         rt, alloc, blank, opened, FED, ORDERED, one, &mut out,
     );
     assert!(rt; matches!(ran, Err(RunFault::Ambassadors)));

@@ -4,6 +4,7 @@ ghost use Rattle.std.specs.Prelude.{◌≡◌};
 ghost use Rattle.hla_base.specs.Limits.{ledger_parts};
 
 use hla_callbacks::Recorder;
+use hla_federation::Federation;
 use hla_in_order::run_in_order;
 use hla_monitor::{Naming, Opened, Status};
 use hla_rti::Closed;
@@ -57,7 +58,7 @@ pub fn run<L: Ledger + Naming + Send + Sync, G: Gate + Sync, R: Threads + Wait +
         panic!(rt; "no memory");
     };
     let mut out = Watched::new(Vec::new(alloc));
-    let ran = run_scripts::<L, Recorder, G, R, Vec<u8>>(
+    let ran = run_scripts::<L, Recorder, Federation, G, R, Vec<u8>>(
         rt, alloc, blank, opened, FED, script, own, gate, true, &mut out,
     );
     match ran {
@@ -87,7 +88,7 @@ pub fn run_on_one_thread<L: Ledger + Naming, R: Wait + Abort>(
         panic!(rt; "no memory");
     };
     let mut out = Watched::new(Vec::new(alloc));
-    let ran = run_in_order::<L, Recorder, R, Vec<u8>>(
+    let ran = run_in_order::<L, Recorder, Federation, R, Vec<u8>>(
         rt, alloc, blank, opened, FED, script, own, &mut out,
     );
     match ran {

@@ -16,6 +16,7 @@ use crate::texts::{FED, script};
 use hla_base::{Fault, LEDGER_PARTS};
 use hla_callbacks::Recorder;
 use hla_checker::check_run;
+use hla_federation::Federation;
 use hla_monitor::{Naming, Opened};
 use hla_run::{OpenGate, Ran, recorders, run_scripts};
 use hla_transcript::Watched;
@@ -80,7 +81,7 @@ fn run_at<L: Ledger + Naming + Send + Sync, R: Threads + Wait + Sync>(
 {
     let own = recorders(alloc, script).ok()?;
     let mut out = Watched::new(Vec::new(alloc));
-    let ran = run_scripts::<L, Recorder, OpenGate, R, Vec<u8>>(
+    let ran = run_scripts::<L, Recorder, Federation, OpenGate, R, Vec<u8>>(
         rt, alloc, blank, opened, FED, script, own, &OpenGate, false, &mut out,
     );
     match ran {

@@ -7,7 +7,7 @@ use Rattle.hla_in_order.proofs.acting.act.Goals as goal
 
 pub returns-in-Some-get_mut : goal.returns-in-Some-get_mut
 returns-in-Some-get_mut g c =
-    let joined = subst (λ (ps : List (Option (Player g.row.L.Denot g.row.B.Denot g.row.P.Denot))). IsJoinedAt ps c.in-Some.place c.args.number) c.as_slice.ensures.value c.in-Some.ensures in
+    let joined = subst (λ (ps : List (Option (Player g.row.L.Denot g.row.B.Denot g.row.P.Denot g.row.F.Denot))). IsJoinedAt ps c.in-Some.place c.args.number) c.as_slice.ensures.value c.in-Some.ensures in
     let within = slice_get_within c.args.players.now.items c.in-Some.place joined.0 joined.1 in
     let at = slice_get_read c.args.players.now.items (length c.args.players.now.items) c.in-Some.place c.in-Some-get_mut.slot.now refl within c.in-Some-get_mut.ensures.value in
     does_at c.args.players.now.items _ c.in-Some.place c.args.number c.args.deed c.act_in.result c.in-Some-get_mut.slot.now c.act_in.new.slot joined at c.act_in.ensures refl

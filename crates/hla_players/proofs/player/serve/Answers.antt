@@ -13,5 +13,5 @@ returns-in-Resign g c =
 
 pub returns : goal.returns
 returns g c =
-    let p : Player g.row.L.Denot g.row.B.Denot g.row.P.Denot = player.Joined c.serve.new.self in
+    let p : Player g.row.L.Denot g.row.B.Denot g.row.P.Denot g.row.F.Denot = player.Joined c.serve.new.self in
     served_does c.args.federate c.serve.new.self c.args.service c.serve.result c.outcome_of-outcome.result p refl c.serve.ensures.served c.outcome_of-outcome.ensures

@@ -7,12 +7,12 @@ use Rattle.hla_run.proofs.life.do_call.Goals as goal
 
 pub returns-in-Tick-clause-same : goal.returns-in-Tick-clause-same
 returns-in-Tick-clause-same g c = λ execution f before.
-    let was = subst (λ (p : Player g.row.L.Denot g.row.B.Denot g.row.P.Denot). IsPlayerAs execution f p) c.in-Joined.is before in
+    let was = subst (λ (p : Player g.row.L.Denot g.row.B.Denot g.row.P.Denot g.row.F.Denot). IsPlayerAs execution f p) c.in-Joined.is before in
     (c.tick_until_called-outcome.ensures.execution ∙ was.0, c.tick_until_called-outcome.ensures.federate ∙ was.1)
 
 pub returns-in-Tick-clause-recorded : goal.returns-in-Tick-clause-recorded
 returns-in-Tick-clause-recorded g c = λ execution f before.
-    let was = subst (λ (p : Player g.row.L.Denot g.row.B.Denot g.row.P.Denot). IsPlayerAs execution f p) c.in-Joined.is before in
+    let was = subst (λ (p : Player g.row.L.Denot g.row.B.Denot g.row.P.Denot g.row.F.Denot). IsPlayerAs execution f p) c.in-Joined.is before in
     let m = c.in-Joined.federate in
     let catalogue = c.args.stage.now.catalogue.now in
     let records = c.tick_until_called-outcome.new.federate.caller.transcript in
@@ -28,9 +28,9 @@ returns-in_default g c =
     let grown : HasExtended (caller_of c.args.player) (caller_of new) = rw c.in-Joined.is both.0 in
     record {
       extended = grown;
-      same = λ execution f before. player_stays execution f m new c.do_deed.ensures.1 (subst (λ (p : Player g.row.L.Denot g.row.B.Denot g.row.P.Denot). IsPlayerAs execution f p) c.in-Joined.is before);
+      same = λ execution f before. player_stays execution f m new c.do_deed.ensures.1 (subst (λ (p : Player g.row.L.Denot g.row.B.Denot g.row.P.Denot g.row.F.Denot). IsPlayerAs execution f p) c.in-Joined.is before);
       recorded = λ execution f before.
-          let was = subst (λ (p : Player g.row.L.Denot g.row.B.Denot g.row.P.Denot). IsPlayerAs execution f p) c.in-Joined.is before in
+          let was = subst (λ (p : Player g.row.L.Denot g.row.B.Denot g.row.P.Denot g.row.F.Denot). IsPlayerAs execution f p) c.in-Joined.is before in
           call_of catalogue (caller_of new).transcript m.execution execution m.federate f c.args.call.now c.do_deed.result.outcome was.0 was.1 both.1;
     }
 

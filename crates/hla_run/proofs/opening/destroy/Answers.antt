@@ -1,7 +1,7 @@
 use Rattle.std.proofs.Common.{List, Option, length, ap, subst, sym, refl, ◌∙◌}
 use Rattle.hla_machine.specs.declared.step.Outcome.{Outcome}
 use Rattle.hla_outcomes.specs.declared.outcomes.LineOutcome.{LineOutcome}
-use Rattle.hla_rti.specs.Callers.{Office}
+use Rattle.hla_callers.specs.Callers.{Office}
 use Rattle.hla_run.specs.Recorded.{HasExtended, KeepsOffice}
 use Rattle.hla_run.proofs.RecordLemmas.{destroyed_line, grown_same, grown_twice, line_at, office_noted, office_same}
 use Rattle.hla_run.proofs.opening.destroy.Goals.{in-Destroy, in_default}

@@ -5,7 +5,7 @@ use Rattle.hla_machine.specs.declared.step.Act.TheVariants as act
 use Rattle.hla_machine.specs.declared.step.Answer.TheVariants as answer
 use Rattle.hla_machine.specs.declared.step.Outcome.TheVariants as outcome
 use Rattle.hla_machine.specs.declared.step.Step.TheVariants as step
-use Rattle.hla_rti.specs.Callers.{Caller, FederateCaller}
+use Rattle.hla_callers.specs.Callers.{Caller, FederateCaller}
 use Rattle.hla_run.specs.Recorded.{AreFresh, AreJoined, HasJoined, IsJoiningRecorded}
 use Rattle.hla_run.specs.declared.life.Life.{Life}
 use Rattle.hla_run.proofs.RecordLemmas.{acted_extended, acted_recorded, fresh_more, grown_within, joined_in, joined_more, refused_joining}
@@ -33,7 +33,7 @@ returns-clause-fresh g c = λ before.
     let pushed = c.push.ensures.items ∙ cond-true _ _ _ (ap is_ok c.in-Ok-push.is) in
     let execution = c.args.execution in
     let stands : (c.in-Ok.federate.execution ≡ execution) × (c.in-Ok.federate.federate ≡ c.number-number.result) = (ap (λ (f : FederateCaller). f.execution) c.in-Ok.ensures.federate, sym c.number-number.ensures) in
-    subst (λ (ls : List (Life g.row.L.Denot g.row.B.Denot g.row.P.Denot)). AreFresh execution ls) (sym pushed) (fresh_more execution c.args.lives.now.items _ before (stands, c.new.ensures.items))
+    subst (λ (ls : List (Life g.row.L.Denot g.row.B.Denot g.row.P.Denot g.row.F.Denot)). AreFresh execution ls) (sym pushed) (fresh_more execution c.args.lives.now.items _ before (stands, c.new.ensures.items))
 
 pub returns-clause-joined : goal.returns-clause-joined
 returns-clause-joined g c = λ before.
@@ -48,5 +48,5 @@ returns-clause-joined g c = λ before.
     let grown = acted_extended old own execution _ _ c.in-Ok.ensures.joined in
     let others = joined_in own.transcript old.transcript execution c.args.lives.now.items (grown_within old own grown) before in
     let all = joined_more own.transcript execution c.args.lives.now.items _ others numbered in
-    let kept = subst (λ (ls : List (Life g.row.L.Denot g.row.B.Denot g.row.P.Denot)). AreJoined own.transcript execution ls) (sym pushed) all in
+    let kept = subst (λ (ls : List (Life g.row.L.Denot g.row.B.Denot g.row.P.Denot g.row.F.Denot)). AreJoined own.transcript execution ls) (sym pushed) all in
     subst (λ (x : Caller). AreJoined x.transcript execution c.push.new.self.items) (sym c.courier.ensures.own) kept

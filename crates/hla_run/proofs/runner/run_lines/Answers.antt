@@ -20,13 +20,13 @@ returns-then-are_of_all-clause-recorded g c = λ history lefts own.
     let lived : All (IsLifeRecorded catalogue lines execution) c.in-Ok.lives.items = λ k d below.
     let within : k < length lives = omega (arith, below, c.in-Ok.ensures.len) in
     let job = (c.in-Ok.ensures.each k d within).1 in
-    let fresh = subst (λ (life : Life g.row.L.Denot g.row.B.Denot g.row.P.Denot). IsFresh execution life) (job.job_is job.job) (c.in_ok-lives.ensures.fresh k job.job within) in
+    let fresh = subst (λ (life : Life g.row.L.Denot g.row.B.Denot g.row.P.Denot g.row.F.Denot). IsFresh execution life) (job.job_is job.job) (c.in_ok-lives.ensures.fresh k job.job within) in
     let called : IsLifeRecorded catalogue lines execution job.job → IsLifeRecorded catalogue lines execution (get_or c.in-Ok.lives.items k d) = job.call.met.1 execution in
     called (fresh_recorded catalogue lines execution job.job fresh) in
     let named : AreJoined history execution c.in-Ok.lives.items = λ k d below.
     let within : k < length lives = omega (arith, below, c.in-Ok.ensures.len) in
     let job = (c.in-Ok.ensures.each k d within).1 in
-    let first = subst (λ (life : Life g.row.L.Denot g.row.B.Denot g.row.P.Denot). HasJoined history execution life.name life.number) (job.job_is job.job) (joined k job.job within) in
+    let first = subst (λ (life : Life g.row.L.Denot g.row.B.Denot g.row.P.Denot g.row.F.Denot). HasJoined history execution life.name life.number) (job.job_is job.job) (joined k job.job within) in
     let same : IsLifeOf job.job (get_or c.in-Ok.lives.items k d) = job.call.met.0 in
     joined_same history execution job.job (get_or c.in-Ok.lives.items k d) same first in
     let told = c.in_ok-lefts.ensures.recorded catalogue lines execution history lived named lefts refused in

@@ -2,7 +2,7 @@ use Rattle.std.proofs.Common.{refl}
 use Rattle.hla_machine.specs.declared.step.Answer.TheVariants as answer
 use Rattle.hla_machine.specs.declared.step.Step.TheVariants as step
 use Rattle.hla_requests.specs.declared.steps.Request.TheVariants as request
-use Rattle.hla_rti.specs.Callers.{said}
+use Rattle.hla_callers.specs.Callers.{said}
 use Rattle.hla_in_order.proofs.LeadLemmas.{courier_leads}
 use Rattle.hla_in_order.proofs.in_order.Cast.announce.Goals as goal
 

@@ -1,6 +1,6 @@
 use Rattle.std.proofs.Common.{refl}
 use Rattle.hla_requests.specs.declared.steps.Request.TheVariants as request
-use Rattle.hla_rti.specs.Callers.{said, nothing}
+use Rattle.hla_callers.specs.Callers.{said, nothing}
 use Rattle.hla_in_order.proofs.LeadLemmas.{itself_leads}
 use Rattle.hla_in_order.proofs.in_order.Cast.destroy.Goals as goal
 

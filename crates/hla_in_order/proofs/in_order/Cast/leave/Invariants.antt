@@ -1,6 +1,6 @@
 use Rattle.std.proofs.Common.{List, length, ◌+◌}
 use Rattle.hla_machine.specs.declared.step.Record.{Record}
-use Rattle.hla_rti.specs.Callers.{Office}
+use Rattle.hla_callers.specs.Callers.{Office}
 use Rattle.hla_in_order.specs.Turns.{IsSet, HaveLeft}
 use Rattle.hla_in_order.proofs.in_order.Cast.leave.Given as goal
 

@@ -15,7 +15,7 @@ use crate::federate::Federate;
 use hla_base::{ExecutionName, Fault, List, MAX_CALLERS, MAX_COURIERS, MAX_HISTORY_LIMIT};
 use hla_callbacks::FederateAmbassador;
 use hla_callers::{Locked, Seat};
-use hla_federation::Federation;
+use hla_execution::Execution;
 use hla_history::Shared;
 use hla_monitor::{Board, Monitor, Naming, Opened, Published, Publisher, Told, open_board};
 use std::alloc::Global;
@@ -26,17 +26,18 @@ use std::sync::{Arc, Mutex, Wait};
 /// The run-time infrastructure: executions, their federates' ambassadors and one history behind one lock, and a caller of its
 /// own, which creates and destroys executions. Contracts see how many callers it has handed out, and that caller.
 #[derive(Drop)]
-pub struct Rti<L: Ledger + Naming, B: FederateAmbassador, W: Publisher<L>> {
+pub struct Rti<L: Ledger + Naming, B: FederateAmbassador, W: Publisher<L>, F: Execution> {
     pub(crate) seat: Seat<L>,
     /// The parts of the ledger for callers to come.
     pub(crate) rest: Share<L>,
     pub(crate) handed: u32,
     pub(crate) couriers: u32,
-    pub(crate) shared: Arc<Mutex<Locked<L, B, W, Federation>>, Global>,
+    pub(crate) shared: Arc<Mutex<Locked<L, B, W, F>>, Global>,
     pub(crate) alloc: Global,
 }
 
-impl<L: Ledger + Naming, B: FederateAmbassador, W: Publisher<L>> Model for Rti<L, B, W> {
+impl<L: Ledger + Naming, B: FederateAmbassador, W: Publisher<L>, F: Execution> Model
+    for Rti<L, B, W, F> {
     ghost use Rattle.std.specs.Prelude.{◌≡◌, ◌+◌};
     ghost use Rattle.hla_base.specs.Limits.{max_callers};
     ghost use Rattle.hla_callers.specs.Callers.{Office};
@@ -49,7 +50,7 @@ impl<L: Ledger + Naming, B: FederateAmbassador, W: Publisher<L>> Model for Rti<L
         × (r.seat.number ≡ 0) };
 }
 
-impl<L: Ledger + Naming, B: FederateAmbassador, W: Publisher<L>> Rti<L, B, W> {
+impl<L: Ledger + Naming, B: FederateAmbassador, W: Publisher<L>, F: Execution> Rti<L, B, W, F> {
     /// No execution, and room for a history of `history_limit` records. `blank` is a ledger of one part for each caller that
     /// there may be: the infrastructure itself and `MAX_CALLERS`. `board` is what monitors are shown, of an empty history.
     /// `LimitReached` where the limit is above `MAX_HISTORY_LIMIT`; `OutOfMemory` where the room was refused.
@@ -58,7 +59,7 @@ impl<L: Ledger + Naming, B: FederateAmbassador, W: Publisher<L>> Rti<L, B, W> {
         blank: Blank,
         board: Board<L, W>,
         history_limit: usize,
-    ) -> Result<Rti<L, B, W>, Fault>
+    ) -> Result<Rti<L, B, W, F>, Fault>
         requires name { blank.name ≡ L.name }
         requires parts { blank.parts ≡ L.parts }
         requires all { blank.parts ≡ ledger_parts }
@@ -121,7 +122,7 @@ impl<L: Ledger + Naming, B: FederateAmbassador, W: Publisher<L>> Rti<L, B, W> {
 
     /// A courier, which carries messages over the wires between federates. `LimitReached` where `MAX_COURIERS` were handed
     /// out, or `MAX_CALLERS` callers in all; `OutOfMemory` where a growth was refused. A fault has changed nothing.
-    pub fn courier(&mut self) -> Result<Courier<L, B, W>, Fault>
+    pub fn courier(&mut self) -> Result<Courier<L, B, W, F>, Fault>
         ensures courier { IfOk result (λ c. c ≡ new_caller self.new.handed) }
         ensures handed { MatchResult result (λ _. self.new.handed ≡ self.old.handed + 1)
             (λ _. self.new.handed ≡ self.old.handed) }
@@ -175,7 +176,7 @@ impl<L: Ledger + Naming, B: FederateAmbassador, W: Publisher<L>> Rti<L, B, W> {
         name: List<u8>,
         execution: ExecutionName,
         ambassador: B,
-    ) -> Result<Federate<L, B, W>, (Fault, B)>
+    ) -> Result<Federate<L, B, W, F>, (Fault, B)>
         requires { B.heard ambassador ≡ [] }
         ensures joined { IfOk result
             (λ f. HasActed self.old.own execution (act.Step (step.Join name))
@@ -225,13 +226,13 @@ impl<L: Ledger + Naming, B: FederateAmbassador, W: Publisher<L>> Rti<L, B, W> {
 /// The infrastructure with monitors that are read without a lock, as `Rti::new` makes it over the board of `open_board`.
 /// Publishing waits by the handle `R`. `LimitReached` where the limit is above `MAX_HISTORY_LIMIT`; `OutOfMemory` where a
 /// growth was refused.
-pub fn open_rti<L: Ledger + Naming, B: FederateAmbassador, R: Wait + Drop>(
+pub fn open_rti<L: Ledger + Naming, B: FederateAmbassador, F: Execution, R: Wait + Drop>(
     alloc: Global,
     rt: R,
     blank: Blank,
     opened: Opened,
     history_limit: usize,
-) -> Result<Rti<L, B, Published<L, R>>, Fault>
+) -> Result<Rti<L, B, Published<L, R>, F>, Fault>
     requires name { blank.name ≡ L.name }
     requires parts { blank.parts ≡ L.parts }
     requires all { blank.parts ≡ ledger_parts }

@@ -7,24 +7,29 @@ ghost use Rattle.hla_callers.specs.Close.{AllHere, AllAgree, AreOfCallers};
 use crate::rti::Rti;
 use hla_callbacks::FederateAmbassador;
 use hla_callers::{CloseFault, Closed, Left, Unsettled, all_here};
+use hla_execution::Execution;
 use hla_monitor::{Naming, Publisher};
 use std::sync::Wait;
 use std::sync::ledger::Ledger;
 
 /// What `close` gives back where it does not close.
 #[derive(Drop)]
-pub struct NotClosed<L: Ledger + Naming, B: FederateAmbassador, W: Publisher<L>> {
-    pub rti: Rti<L, B, W>,
+pub struct NotClosed<L: Ledger + Naming, B: FederateAmbassador, W: Publisher<L>, F: Execution> {
+    pub rti: Rti<L, B, W, F>,
     pub lefts: Vec<Left<L, B>>,
     pub fault: CloseFault,
 }
 
-impl<L: Ledger + Naming, B: FederateAmbassador, W: Publisher<L>> Rti<L, B, W> {
+impl<L: Ledger + Naming, B: FederateAmbassador, W: Publisher<L>, F: Execution> Rti<L, B, W, F> {
     /// Takes all callers back, and answers the records of the whole history, where each transcript is just the records of its
     /// caller, in order. Else `Missing` where a caller that was handed out is not in the list, and then `Transcript` with the
     /// place of the first that differs; then the infrastructure and the list come back, and nothing has changed. Each record is of
     /// one of the callers, or of the infrastructure itself.
-    pub fn close(self, rt: &impl Wait, lefts: Vec<Left<L, B>>) -> Result<Closed, NotClosed<L, B, W>>
+    pub fn close(
+        self,
+        rt: &impl Wait,
+        lefts: Vec<Left<L, B>>,
+    ) -> Result<Closed, NotClosed<L, B, W, F>>
         requires { L.parts ≡ ledger_parts }
         ensures agree { IfOk result (λ c. AllAgree c lefts.items self.own) }
         ensures theirs { IfOk result (AreOfCallers self.handed) }

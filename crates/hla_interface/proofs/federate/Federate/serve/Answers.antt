@@ -1,8 +1,8 @@
 use Rattle.std.proofs.Common.{◌≡◌, refl, subst}
 use Rattle.hla_machine.specs.declared.step.Act.TheVariants as act
 use Rattle.hla_machine.specs.declared.step.Step.TheVariants.{Call}
-use Rattle.hla_rti.specs.Callers.{FederateCaller, HasAnswered, IsServed}
-use Rattle.hla_rti.proofs.federate.Federate.serve.Goals as goal
+use Rattle.hla_callers.specs.Callers.{FederateCaller, HasAnswered, IsServed}
+use Rattle.hla_interface.proofs.federate.Federate.serve.Goals as goal
 
 pub returns-clause-served : goal.returns-clause-served
 unfolding IsServed

@@ -15,7 +15,7 @@ use crate::answers::{
 use hla_base::{EventHandle, ExecutionName, Fault, FederateNo, List, Ticks};
 use hla_callbacks::{Callback, FederateAmbassador};
 use hla_callers::{Left, Locked, Seat};
-use hla_federation::Federation;
+use hla_execution::Execution;
 use hla_machine::{Answer, ResignAction, Service, Step};
 use hla_monitor::{Naming, Publisher};
 use std::alloc::Global;
@@ -26,14 +26,15 @@ use std::sync::{Arc, Mutex, Wait};
 /// A federate that has joined an execution: its calls are the services of HLA 1.3. It may be moved to a thread of its own.
 /// Contracts see the execution, the number of the federate in it, and the caller with its transcript.
 #[derive(Drop)]
-pub struct Federate<L: Ledger + Naming, B: FederateAmbassador, W: Publisher<L>> {
+pub struct Federate<L: Ledger + Naming, B: FederateAmbassador, W: Publisher<L>, F: Execution> {
     pub(crate) seat: Seat<L>,
-    pub(crate) shared: Arc<Mutex<Locked<L, B, W, Federation>>, Global>,
+    pub(crate) shared: Arc<Mutex<Locked<L, B, W, F>>, Global>,
     pub(crate) execution: ExecutionName,
     pub(crate) federate: FederateNo,
 }
 
-impl<L: Ledger + Naming, B: FederateAmbassador, W: Publisher<L>> Model for Federate<L, B, W> {
+impl<L: Ledger + Naming, B: FederateAmbassador, W: Publisher<L>, F: Execution> Model
+    for Federate<L, B, W, F> {
     ghost use Rattle.hla_callers.specs.Callers.{FederateCaller};
 
     ghost Value = { FederateCaller };
@@ -42,7 +43,12 @@ impl<L: Ledger + Naming, B: FederateAmbassador, W: Publisher<L>> Model for Feder
         record { execution = f.execution; federate = f.federate; caller = f.seat } };
 }
 
-impl<L: Ledger + Naming, B: FederateAmbassador, W: Publisher<L>> Federate<L, B, W> {
+impl<L: Ledger + Naming, B: FederateAmbassador, W: Publisher<L>, F: Execution> Federate<
+    L,
+    B,
+    W,
+    F,
+> {
     /// Calls a service that is given as a value, for programs that read from a text what a federate does; each service has
     /// a call of its own name, too. Resign is not called so, since the federate goes then. The faults are those of the service.
     /// `HistoryFull` and `OutOfMemory` without a record, and then nothing has changed; of any other fault there is a record,
@@ -152,7 +158,7 @@ impl<L: Ledger + Naming, B: FederateAmbassador, W: Publisher<L>> Federate<L, B, 
         mut self,
         rt: &impl Wait,
         action: ResignAction,
-    ) -> Result<Left<L, B>, (Fault, Federate<L, B, W>)>
+    ) -> Result<Left<L, B>, (Fault, Federate<L, B, W, F>)>
         ensures resigned { IfOk result (λ l. HasResigned self.caller self.execution
             (act.Step (step.Call self.federate (service.Resign action))) l.caller) }
         ensures ambassador { IfOk result (λ l. is_some l.heard ≡ true) }

@@ -3,8 +3,8 @@ use Rattle.std.specs.Prelude.{Err}
 use Rattle.hla_machine.specs.declared.service.Service.TheVariants as service
 use Rattle.hla_machine.specs.declared.step.Act.TheVariants as act
 use Rattle.hla_machine.specs.declared.step.Step.TheVariants.{Call}
-use Rattle.hla_rti.specs.Callers.{FederateCaller, HasAnswered, IsServed}
-use Rattle.hla_rti.proofs.federate.Federate.resign.Goals as goal
+use Rattle.hla_callers.specs.Callers.{FederateCaller, HasAnswered, IsServed}
+use Rattle.hla_interface.proofs.federate.Federate.resign.Goals as goal
 
 pub returns-in-Err-clause-refused : goal.returns-in-Err-clause-refused
 unfolding IsServed

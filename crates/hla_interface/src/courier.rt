@@ -10,7 +10,7 @@ use crate::answers::{announced_in, carried_in};
 use hla_base::{ExecutionName, Fault, FederateNo, Ticks};
 use hla_callbacks::FederateAmbassador;
 use hla_callers::{Left, Locked, Seat};
-use hla_federation::Federation;
+use hla_execution::Execution;
 use hla_machine::{Carried, Step};
 use hla_monitor::{Naming, Publisher};
 use std::alloc::Global;
@@ -21,12 +21,13 @@ use std::sync::{Arc, Mutex, Wait};
 /// A caller that moves what is on the wires between federates (this profile). It may be moved to a thread of its own.
 /// Contracts see the caller with its transcript.
 #[derive(Drop)]
-pub struct Courier<L: Ledger + Naming, B: FederateAmbassador, W: Publisher<L>> {
+pub struct Courier<L: Ledger + Naming, B: FederateAmbassador, W: Publisher<L>, F: Execution> {
     pub(crate) seat: Seat<L>,
-    pub(crate) shared: Arc<Mutex<Locked<L, B, W, Federation>>, Global>,
+    pub(crate) shared: Arc<Mutex<Locked<L, B, W, F>>, Global>,
 }
 
-impl<L: Ledger + Naming, B: FederateAmbassador, W: Publisher<L>> Model for Courier<L, B, W> {
+impl<L: Ledger + Naming, B: FederateAmbassador, W: Publisher<L>, F: Execution> Model
+    for Courier<L, B, W, F> {
     ghost use Rattle.hla_callers.specs.Callers.{Caller};
 
     ghost Value = { Caller };
@@ -34,7 +35,7 @@ impl<L: Ledger + Naming, B: FederateAmbassador, W: Publisher<L>> Model for Couri
     ghost view = { λ c. c.seat };
 }
 
-impl<L: Ledger + Naming, B: FederateAmbassador, W: Publisher<L>> Courier<L, B, W> {
+impl<L: Ledger + Naming, B: FederateAmbassador, W: Publisher<L>, F: Execution> Courier<L, B, W, F> {
     /// Takes the first message off the wire from one federate to another, and hands it to the second (this profile). Answers
     /// what was there. `FederationExecutionDoesNotExist`; `FederateNotExecutionMember` where the second is
     /// not joined, the first never was, or both are one. `HistoryFull` and `OutOfMemory` without a record, and then nothing

@@ -1,0 +1,21 @@
+//! The services of the HLA interface behind one lock, over whatever executions are kept: federates and other callers, each with a
+//! transcript of its own acts. `hla_rti` is this over federations.
+#![tactic(auto)]
+
+mod answers;
+mod closing;
+mod courier;
+mod federate;
+mod object_services;
+mod rti;
+mod support_services;
+mod synchronization_services;
+mod time_services;
+
+pub use answers::Registration;
+pub use closing::NotClosed;
+pub use courier::Courier;
+pub use federate::Federate;
+pub use hla_base::{LEDGER_PARTS, MAX_CALLERS, MAX_COURIERS, MAX_HISTORY_LIMIT};
+pub use hla_callers::{CloseFault, Closed, Left, Seat, Unsettled, settle};
+pub use rti::{Rti, open_rti};
