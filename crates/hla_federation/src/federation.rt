@@ -12,7 +12,6 @@ use std::marker::Model;
 /// A federation execution: its declarations and objects, the components of its federates and the wires between them.
 /// Contracts see what they say; `state_of` leads from there to the components' state and `central` from that to the state
 /// of the central machine. A value of this type keeps what makes each step a step of that machine.
-#[derive(Drop)]
 pub struct Federation {
     parts: Parts,
 }
@@ -26,6 +25,14 @@ impl Model for Federation {
     ghost view = { λ f. f.parts };
 
     ghost invariant = { λ f. IsSound f.parts };
+}
+
+/// By name and not derived, so that it is proved here alone how all that a federation holds is let go, and not by each crate that
+/// owns one.
+impl Drop for Federation {
+    fn drop(self) {
+        let Federation { parts: _ } = self;
+    }
 }
 
 impl Federation {
