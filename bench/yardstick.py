@@ -3,7 +3,8 @@
 
 BUILT is a folder of this repository in which `rt run` has built `hla_bench` and `hlaplay`. The yardstick is built by g++. Each row is
 run by both, one after the other, so many turns (7 where it is left out), and it stops with status 1 where they print different things.
-It prints a line for each row: both medians in seconds, and how many times the yardstick's time the library takes. Of the rows of
+It prints a line for each row: both medians in seconds, and how many times the yardstick's time the library takes, and the same of the least,
+which tell more where others take processors away at times. Of the rows of
 `hla_bench` the seconds are those that the programs measure themselves; of scripts they are from the start of the process to its end.
 
 Nothing else should run on the machine meanwhile."""
@@ -45,8 +46,11 @@ def row(name, ours, theirs, turns, text=None):
             seconds[place].append(took)
         if said[0] != said[1]:
             sys.exit(f"{name}: the two print different things")
-    mine, other = map(statistics.median, seconds)
-    print(f"| {name} | {mine:.4f} | {other:.4f} | {mine / other:.2f} |", flush=True)
+    cells = []
+    for of in (statistics.median, min):
+        mine, other = map(of, seconds)
+        cells += [f"{mine:.4f}", f"{other:.4f}", f"{mine / other:.2f}"]
+    print(f"| {name} | {' | '.join(cells)} |", flush=True)
 
 
 def main():
@@ -57,7 +61,7 @@ def main():
     with tempfile.TemporaryDirectory() as room:
         yardstick = f"{room}/yardstick"
         subprocess.run(["g++", "-std=c++20", "-O2", "-o", yardstick, BENCH / "yardstick" / "main.cc"], check=True)
-        print("| Row | Seconds | Yardstick | Times the yardstick |\n|---|---|---|---|", flush=True)
+        print("| Row | Seconds | Yardstick | Times the yardstick | Least | Yardstick | Times the yardstick |\n|" + "---|" * 7, flush=True)
         bench = crates / "hla_bench/out/hla_bench"
         for words in ROWS:
             row(words, [bench, *words.split()], [yardstick, *words.split()], turns)
