@@ -1,6 +1,7 @@
 //! Where the threads of a run wait for each other.
 
-ghost use Rattle.std.specs.Prelude.{◌≡◌, ◌-◌, ◌+◌, ◌<◌, ◌≤◌, Some, unwrap_or};
+ghost use Rattle.std.specs.Prelude.{◌≡◌, ◌-◌, ◌+◌, ◌<◌, ◌≤◌, Some, unwrap_or, min, max, ◌%◌, ◌^◌};
+ghost use Rattle.hla_base.specs.Limits.{largest_number};
 
 use std::sync::atomic::{AtomicU64, Ordering};
 use std::sync::{Mutex, Wait};
@@ -88,10 +89,13 @@ impl LineWait {
     /// content with one.
     fn lacks(&mut self, effort: Effort) -> u64
         ensures since { self.new.since ≡ Some (unwrap_or self.old.since effort) }
+        ensures ticks { self.old.ticks ≤ PATIENT_TICKS → self.new.ticks ≡ self.old.ticks + 1 }
+        ensures many { PATIENT_TICKS < self.old.ticks → PATIENT_TICKS < self.new.ticks }
         ensures patient { self.old.ticks < PATIENT_TICKS → result ≡ 1 }
         ensures long { let since = unwrap_or self.old.since effort
-            in PATIENT_TICKS ≤ self.old.ticks →
-            (effort.ticks - since.ticks) - (effort.exchanges - since.exchanges) ≤ result }
+            in PATIENT_TICKS ≤ self.old.ticks → result ≡ min
+            ((effort.ticks - since.ticks) - (effort.exchanges - since.exchanges) + 1)
+            largest_number }
     {
         self.ticks = self.ticks.saturating_add(1);
         let since = self.since.unwrap_or(effort);
@@ -133,10 +137,11 @@ impl Crowd {
 
     /// One more rests, which lacks so many exchanges and waits for so many moments for those who are held.
     fn take_in(&mut self, lacking: u64, patience: u32)
-        ensures due { lacking ≤ self.new.due }
-        ensures others_due { self.old.due ≤ self.new.due }
-        ensures patience { patience ≤ self.new.patience }
-        ensures others_patience { self.old.patience ≤ self.new.patience }
+        ensures { self.new ≡ record self.old {
+          resting = min (self.old.resting + 1) largest_number;
+          patience = max self.old.patience patience;
+          due = max self.old.due lacking;
+        } }
     {
         self.due = self.due.max(lacking);
         self.patience = self.patience.max(patience);
@@ -145,7 +150,8 @@ impl Crowd {
 
     /// One who rests gets up to lead the next bout.
     fn led(&mut self) -> Rested
-        ensures { result ≡ Rested.Leads self.old.due }
+        ensures bout { result ≡ Rested.Leads self.old.due }
+        ensures up { self.new ≡ record self.old { resting = self.old.resting - 1 } }
     {
         self.resting = self.resting.saturating_sub(1);
         Rested::Leads {
@@ -155,7 +161,14 @@ impl Crowd {
 
     /// All who rest go on, behind so many exchanges.
     fn let_out(&mut self, exchanges: u64)
-        ensures { self.new.resting ≡ 0 }
+        ensures { self.new ≡ record self.old {
+          resting = 0;
+          patience = 0;
+          due = 0;
+          effort = record self.old.effort {
+            exchanges = min (self.old.effort.exchanges + exchanges) largest_number;
+          };
+        } }
     {
         self.effort.exchanges = self.effort.exchanges.saturating_add(exchanges);
         self.resting = 0;
@@ -185,7 +198,9 @@ enum Look {
 }
 
 /// The part of a count by which a thread sleeps on it.
-fn low_bits(count: u64) -> u32 {
+fn low_bits(count: u64) -> u32
+    ensures { result ≡ count % 2 ^ 32 }
+{
     (count % (1 << 32)) as u32
 }
 
