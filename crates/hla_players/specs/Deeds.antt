@@ -4,8 +4,11 @@ use Rattle.hla_base.specs.declared.fault.Fault.{Fault}
 use Rattle.hla_base.specs.declared.fault.Fault.TheVariants as fault
 use Rattle.hla_catalogue.specs.CatalogueValue.{CatalogueValue}
 use Rattle.hla_commands.specs.declared.lines.Call.{Call}
+use Rattle.hla_machine.specs.declared.service.ResignAction.{ResignAction}
+use Rattle.hla_machine.specs.declared.service.Service.TheVariants as service
 use Rattle.hla_machine.specs.declared.step.Act.{Act}
 use Rattle.hla_machine.specs.declared.step.Act.TheVariants as act
+use Rattle.hla_machine.specs.declared.step.Answer.TheVariants as answer
 use Rattle.hla_machine.specs.declared.step.Outcome.{Outcome}
 use Rattle.hla_machine.specs.declared.step.Outcome.TheVariants as outcome
 use Rattle.hla_machine.specs.declared.step.Step.TheVariants as step
@@ -50,3 +53,8 @@ StaysAs old (player.Gone l) = Unit {0}
 -- a joined federate has done a deed
 abbrev pub DoesDeed : {L B P F : Type 0} → FederateCaller → Deed → Outcome → Player L B P F → Type 0
 DoesDeed old what out new = HasDone old.caller old.execution old.federate what out (caller_of new) × StaysAs old new
+
+-- it is gone only where the deed was to resign, and is told as done
+abbrev pub IsGoneBy : {L B P F : Type 0} → Deed → Outcome → Player L B P F → Type 0
+IsGoneBy what out (player.Joined m) = Unit {0}
+IsGoneBy what out (player.Gone l) = (way : ResignAction) × (what ≡ deed.Serve (service.Resign way)) × (out ≡ outcome.Done answer.Done)

@@ -2,7 +2,7 @@
 
 ghost use Rattle.std.specs.Prelude.{◌≡◌};
 ghost use Rattle.hla_machine.specs.declared.service.Service.TheVariants as service;
-ghost use Rattle.hla_players.specs.Deeds.{DoesDeed, IsDeedOf, caller_of};
+ghost use Rattle.hla_players.specs.Deeds.{DoesDeed, IsDeedOf, IsGoneBy, caller_of};
 ghost use Rattle.hla_players.specs.declared.player.Deed.TheVariants as deed;
 
 use hla_base::Fault;
@@ -62,7 +62,9 @@ fn resign<L: Ledger + Naming, B: FederateAmbassador, P: Publisher<L>, F: Executi
     federate: Federate<L, B, P, F>,
     action: ResignAction,
 ) -> Acted<L, B, P, F>
-    ensures { DoesDeed federate (deed.Serve (service.Resign action)) result.outcome result.player }
+    ensures done { DoesDeed federate (deed.Serve (service.Resign action)) result.outcome
+        result.player }
+    ensures gone { IsGoneBy (deed.Serve (service.Resign action)) result.outcome result.player }
 {
     match federate.resign(rt, action) {
         Ok(left) => Acted {
@@ -82,7 +84,8 @@ fn serve<L: Ledger + Naming, B: FederateAmbassador, P: Publisher<L>, F: Executio
     mut federate: Federate<L, B, P, F>,
     service: Service,
 ) -> Acted<L, B, P, F>
-    ensures { DoesDeed federate (deed.Serve service) result.outcome result.player }
+    ensures done { DoesDeed federate (deed.Serve service) result.outcome result.player }
+    ensures gone { IsGoneBy (deed.Serve service) result.outcome result.player }
 {
     if let Service::Resign { action } = &service {
         let action = *action;
@@ -96,13 +99,14 @@ fn serve<L: Ledger + Naming, B: FederateAmbassador, P: Publisher<L>, F: Executio
     }
 }
 
-/// Does what a line asks of a joined federate; a tick picks up one callback.
+/// Does what a line asks of a joined federate; a tick picks up one callback. It is gone only where it was to resign and did.
 pub fn do_deed<L: Ledger + Naming, B: FederateAmbassador, P: Publisher<L>, F: Execution>(
     rt: &impl Wait,
     mut federate: Federate<L, B, P, F>,
     deed: Deed,
 ) -> Acted<L, B, P, F>
-    ensures { DoesDeed federate deed result.outcome result.player }
+    ensures done { DoesDeed federate deed result.outcome result.player }
+    ensures gone { IsGoneBy deed result.outcome result.player }
 {
     match deed {
         Deed::Tick => {

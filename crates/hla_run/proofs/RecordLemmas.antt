@@ -1,8 +1,9 @@
 -- What is told of the lines of federates is what records answer.
-use Rattle.std.proofs.Common.{◌≡◌, ℕ, zero, suc, ◌<◌, List, [], ◌∷◌, ◌++◌, length, get_or, filter, replicate, Bool, Option, None, Some, Result, Ok, Err, ◌⊎◌, inl, inr, refl, sym, ap, subst, ◌∙◌, arith}
-use Rattle.std.specs.Prelude.{slice_get, slice_index_or, slice_set, IfOk, OnOk}
+use Rattle.std.proofs.Common.{◌≡◌, ℕ, zero, suc, ◌<◌, List, [], ◌∷◌, ◌++◌, length, get_or, filter, replicate, Bool, true, false, Option, None, Some, Result, Ok, Err, ◌⊎◌, inl, inr, refl, sym, ap, subst, ◌∙◌, arith}
+use Rattle.std.specs.Prelude.{slice_get, slice_index_or, slice_set, IfOk, OnOk, not, ◌||◌}
 use Rattle.std.specs.Io.KnownBytes.{Appends}
-use Rattle.std.specs.List.{All, Contains}
+use Rattle.std.specs.List.{All, Contains, list_any}
+use Rattle.std.specs.Str.{bytes_eq}
 use Rattle.std.proofs.lemmas.List.{append-nil, append_assoc}
 use Rattle.std.proofs.lemmas.List.Elements.{All-contains, All-contains_itself, All-filter, All-push, Contains-append_left, Contains-push, Contains-get_or}
 use Rattle.std.proofs.lemmas.Option.{slice_get-get_or, slice_get_read}
@@ -16,6 +17,7 @@ use Rattle.hla_commands.specs.declared.lines.Line.{Line}
 use Rattle.hla_commands.specs.Script.{script_of}
 use Rattle.hla_fed_file.specs.Grammar.{Describes}
 use Rattle.hla_machine.specs.declared.service.Service.{Service}
+use Rattle.hla_machine.specs.declared.service.Service.TheVariants as service
 use Rattle.hla_machine.specs.declared.step.Act.{Act}
 use Rattle.hla_machine.specs.declared.step.Act.TheVariants as act
 use Rattle.hla_machine.specs.declared.step.Answer.{Answer}
@@ -27,8 +29,8 @@ use Rattle.hla_machine.specs.declared.step.Step.TheVariants as step
 use Rattle.hla_requests.specs.Requests.{service_of}
 use Rattle.hla_callers.specs.Callers.{Caller, FederateCaller, Leaver, HasActed, HasAnswered, HasNotActed, answer_given, nothing, said}
 use Rattle.hla_callers.specs.Close.{Agrees, AllAgree}
-use Rattle.hla_players.specs.Deeds.{HasTold, DoesDeed, IsDeedOf, StaysAs, caller_of}
-use Rattle.hla_run.specs.Recorded.{act_of_call, HasAnswerOf, HasJoined, IsOfficeRecorded, IsJoiningRecorded, IsActRecorded, IsCallRecorded, IsNamedCallRecorded, IsUnmade, IsLineRecorded, IsTellingRecorded, AreTellingsRecorded, IsOwnTelling, AreOwnTellings, AreOutcomesRecorded, HasExtended, IsTranscriptIn, AreTranscriptsIn, IsCallAt, IsFresh, AreFresh, AreJoined, IsLifeOf, IsLifeRecorded, IsPlayerAs, NeedsNoRecord, KeepsRecorded, KeepsOffice, IsOfficeLine, LeavesBehind, GathersRecorded, RecordsTold, IsToldRecorded, IsRunRecorded}
+use Rattle.hla_players.specs.Deeds.{HasDone, HasTold, DoesDeed, IsDeedOf, IsGoneBy, caller_of}
+use Rattle.hla_run.specs.Recorded.{act_of_call, HasAnswerOf, HasJoined, IsOfficeRecorded, IsJoiningRecorded, IsActRecorded, IsCallRecorded, IsNamedCallRecorded, IsResignedBy, IsUnmade, IsLineRecorded, IsTellingRecorded, AreTellingsRecorded, IsOwnTelling, AreOwnTellings, AreOutcomesRecorded, HasExtended, IsTranscriptIn, AreTranscriptsIn, IsCallAt, IsFresh, AreFresh, AreJoined, IsLifeOf, IsLifeRecorded, IsPlayerAs, NeedsNoRecord, KeepsRecorded, KeepsOffice, IsOfficeLine, LeavesBehind, GathersRecorded, RecordsTold, IsToldRecorded, IsRunRecorded}
 use Rattle.hla_outcomes.specs.Running.{AreAllDone, told_text, with_line_noted, with_lines_noted}
 use Rattle.hla_outcomes.specs.declared.fault.RunFault.{RunFault}
 use Rattle.hla_run.specs.declared.life.Life.{Life}
@@ -44,10 +46,25 @@ use Rattle.hla_players.proofs.DeedLemmas.{answer_told}
 answer_in : (history records : List Record) (execution : List ℕ) (a : Act) (given : Result Answer Fault) → IsTranscriptIn history records → HasAnswerOf records execution a given → HasAnswerOf history execution a given
 answer_in history records execution a given within h = record { found = h.found; there = within h.found h.there; inside = h.inside; acts = h.acts; answers = h.answers }
 
+resigned_in : (history records : List Record) (execution : List ℕ) (f : ℕ) → IsTranscriptIn history records → IsResignedBy records execution f → IsResignedBy history execution f
+resigned_in history records execution f within h = (h.0, answer_in history records execution (act.Step (step.Call f (service.Resign h.0))) (Ok answer.Done) within h.1)
+
+unmade_in : (c : CatalogueValue) (history records : List Record) (execution : List ℕ) (f : ℕ) (call : Call) (out : Outcome) → IsTranscriptIn history records → IsUnmade c records execution f call out → IsUnmade c history execution f call out
+unmade_in c history records execution f call out within h = (
+  h.0,
+  h.1,
+  elim h.2 [
+    | inl unknown ↦ inl unknown
+    | inr (inl full) ↦ inr (inl full)
+    | inr (inr (inl memory)) ↦ inr (inr (inl memory))
+    | inr (inr (inr gone)) ↦ inr (inr (inr (gone.0, resigned_in history records execution f within gone.1)))
+  ],
+)
+
 call_in : (c : CatalogueValue) (history records : List Record) (execution : List ℕ) (f : ℕ) (call : Call) (out : Outcome) → IsTranscriptIn history records → IsCallRecorded c records execution f call out → IsCallRecorded c history execution f call out
 call_in c history records execution f call out within h = elim h [
   | inl made ↦ inl (record { asked = made.asked; asks = made.asks; answered = answer_in history records execution (act_of_call made.asked f) (answer_given out) within made.answered })
-  | inr none ↦ inr none
+  | inr none ↦ inr (unmade_in c history records execution f call out within none)
 ]
 
 own_telling_in : (c : CatalogueValue) (lines : List Line) (history records : List Record) (execution : List ℕ) (f : ℕ) (name : List ℕ) (t : LineOutcome) → IsTranscriptIn history records → IsOwnTelling c lines records execution f name t
@@ -58,25 +75,28 @@ pub own_tellings_in : (c : CatalogueValue) (lines : List Line) (history records 
     → AreOwnTellings c lines history execution f name told
 own_tellings_in c lines history records execution f name told within h = λ k d below. own_telling_in c lines history records execution f name (get_or told k d) within (h k d below)
 
--- who is not joined makes no call
-pub unjoined : (c : CatalogueValue) (call : Call) → IsUnmade c call (outcome.Refused fault.FederateNotExecutionMember)
-unjoined c call = (fault.FederateNotExecutionMember, refl, inr (inr (inr refl)))
+-- who has resigned makes no call
+pub unjoined : (c : CatalogueValue) (records : List Record) (execution : List ℕ) (f : ℕ) (call : Call) → IsResignedBy records execution f → IsUnmade c records execution f call (outcome.Refused fault.FederateNotExecutionMember)
+unjoined c records execution f call gone = (fault.FederateNotExecutionMember, refl, inr (inr (inr (refl, gone))))
 
 -- ---- a federate that has joined under a name
-named_recorded : (c : CatalogueValue) (records : List Record) (execution : List ℕ) (f : ℕ) (name : List ℕ) (call : Call) (out : Outcome) → HasJoined records execution name f → IsCallRecorded c records execution f call out
-    → IsNamedCallRecorded c records name call out
-named_recorded c records execution f name call out joined h = elim h [ inl made ↦ inl (record { execution = execution; federate = f; joined = joined; called = made }) | inr none ↦ inr none ]
+named_recorded : (c : CatalogueValue) (records : List Record) (stranger : List ℕ → Bool) (execution : List ℕ) (f : ℕ) (name : List ℕ) (call : Call) (out : Outcome) → HasJoined records execution name f → IsCallRecorded c records execution f call out
+    → IsNamedCallRecorded c records stranger name call out
+named_recorded c records stranger execution f name call out joined h = elim h [
+  | inl made ↦ inl (record { execution = execution; federate = f; joined = joined; called = made })
+  | inr none ↦ inr (inl (record { execution = execution; federate = f; joined = joined; unmade = none }))
+]
 
-telling_named : (c : CatalogueValue) (lines : List Line) (history : List Record) (execution : List ℕ) (f : ℕ) (name : List ℕ) (t : LineOutcome) → HasJoined history execution name f → IsOwnTelling c lines history execution f name t
-    → IsTellingRecorded c lines history t
-telling_named c lines history execution f name t joined h = λ l at.
-    subst (λ (x : Command). IsLineRecorded c history x t.outcome) (sym (h.1 l at)) (named_recorded c history execution f name h.0 t.outcome joined h.2)
+telling_named : (c : CatalogueValue) (lines : List Line) (history : List Record) (stranger : List ℕ → Bool) (execution : List ℕ) (f : ℕ) (name : List ℕ) (t : LineOutcome) → HasJoined history execution name f → IsOwnTelling c lines history execution f name t
+    → IsTellingRecorded c lines history stranger t
+telling_named c lines history stranger execution f name t joined h = λ l at.
+    subst (λ (x : Command). IsLineRecorded c history stranger x t.outcome) (sym (h.1 l at)) (named_recorded c history stranger execution f name h.0 t.outcome joined h.2)
 
 -- what a federate tells of its lines is in the history, where that has its joining and its transcript
-pub tellings_named : (c : CatalogueValue) (lines : List Line) (history records : List Record) (execution : List ℕ) (f : ℕ) (name : List ℕ) (told : List LineOutcome) → HasJoined history execution name f → IsTranscriptIn history records
-    → AreOwnTellings c lines records execution f name told → AreTellingsRecorded c lines history told
-tellings_named c lines history records execution f name told joined within h = λ k d below.
-    telling_named c lines history execution f name (get_or told k d) joined (own_tellings_in c lines history records execution f name told within h k d below)
+pub tellings_named : (c : CatalogueValue) (lines : List Line) (history records : List Record) (stranger : List ℕ → Bool) (execution : List ℕ) (f : ℕ) (name : List ℕ) (told : List LineOutcome) → HasJoined history execution name f → IsTranscriptIn history records
+    → AreOwnTellings c lines records execution f name told → AreTellingsRecorded c lines history stranger told
+tellings_named c lines history records stranger execution f name told joined within h = λ k d below.
+    telling_named c lines history stranger execution f name (get_or told k d) joined (own_tellings_in c lines history records execution f name told within h k d below)
 
 -- a transcript that has grown has what it had
 pub grown_within : (old new : Caller) → HasExtended old new → IsTranscriptIn new.transcript old.transcript
@@ -96,37 +116,43 @@ office_in history records a out within h = (h.0, elim h.1 [ inl answered ↦ inl
 joining_in : (history records : List Record) (name : List ℕ) (out : Outcome) → IsTranscriptIn history records → IsJoiningRecorded records name out → IsJoiningRecorded history name out
 joining_in history records name out within h = elim h [ inl told ↦ inl (office_in history records (act.Step (step.Join name)) out within told) | inr none ↦ inr none ]
 
-named_in : (c : CatalogueValue) (history records : List Record) (name : List ℕ) (call : Call) (out : Outcome) → IsTranscriptIn history records → IsNamedCallRecorded c records name call out → IsNamedCallRecorded c history name call out
-named_in c history records name call out within h = elim h [
+named_in : (c : CatalogueValue) (history records : List Record) (stranger : List ℕ → Bool) (name : List ℕ) (call : Call) (out : Outcome) → IsTranscriptIn history records → IsNamedCallRecorded c records stranger name call out
+    → IsNamedCallRecorded c history stranger name call out
+named_in c history records stranger name call out within h = elim h [
   | inl made ↦
       let asked = made.called in
       let joined = answer_in history records made.execution (act.Step (step.Join name)) (Ok (answer.Federate made.federate)) within made.joined in
       let answered = answer_in history records made.execution (act_of_call asked.asked made.federate) (answer_given out) within asked.answered in
       inl (record { execution = made.execution; federate = made.federate; joined = joined; called = record { asked = asked.asked; asks = asked.asks; answered = answered } })
-  | inr none ↦ inr none
+  | inr (inl none) ↦
+      let joined = answer_in history records none.execution (act.Step (step.Join name)) (Ok (answer.Federate none.federate)) within none.joined in
+      inr (inl (record { execution = none.execution; federate = none.federate; joined = joined; unmade = unmade_in c history records none.execution none.federate call out within none.unmade }))
+  | inr (inr strange) ↦ inr (inr strange)
 ]
 
-line_in : (c : CatalogueValue) (history records : List Record) (l : Command) (out : Outcome) → IsTranscriptIn history records → IsLineRecorded c records l out → IsLineRecorded c history l out
-line_in c history records command.Create out within h = (h.0, office_in history records (act.Create h.0) out within h.1)
-line_in c history records command.Destroy out within h = office_in history records act.Destroy out within h
-line_in c history records (command.Join name) out within h = joining_in history records name out within h
-line_in c history records (command.Carry from to) out within h = tt
-line_in c history records (command.Announce name) out within h = tt
-line_in c history records (command.Federate name call) out within h = named_in c history records name call out within h
+line_in : (c : CatalogueValue) (history records : List Record) (stranger : List ℕ → Bool) (l : Command) (out : Outcome) → IsTranscriptIn history records → IsLineRecorded c records stranger l out → IsLineRecorded c history stranger l out
+line_in c history records stranger command.Create out within h = (h.0, office_in history records (act.Create h.0) out within h.1)
+line_in c history records stranger command.Destroy out within h = office_in history records act.Destroy out within h
+line_in c history records stranger (command.Join name) out within h = joining_in history records name out within h
+line_in c history records stranger (command.Carry from to) out within h = tt
+line_in c history records stranger (command.Announce name) out within h = tt
+line_in c history records stranger (command.Federate name call) out within h = named_in c history records stranger name call out within h
 
--- what is told of one who has not joined needs no record
-pub stranger_aside : (l : Command) (name : List ℕ) (call : Call) → l ≡ command.Federate name call → NeedsNoRecord l (outcome.Refused fault.FederateNotExecutionMember)
-stranger_aside l name call is = λ c records. subst (λ (x : Command). IsLineRecorded c records x (outcome.Refused fault.FederateNotExecutionMember)) (sym is) (inr (unjoined c call))
+-- what is told of a stranger needs no record
+pub stranger_aside : (stranger : List ℕ → Bool) (l : Command) (name : List ℕ) (call : Call) → stranger name ≡ true → l ≡ command.Federate name call → NeedsNoRecord stranger l (outcome.Refused fault.FederateNotExecutionMember)
+stranger_aside stranger l name call known is = λ c records.
+    subst (λ (x : Command). IsLineRecorded c records stranger x (outcome.Refused fault.FederateNotExecutionMember)) (sym is) (inr (inr (refl, known)))
 
 -- the line at a place
 pub line_at : (lines : List Line) (k : ℕ) (l : Line) → k < length lines → l ≡ get_or lines k l → slice_get lines k ≡ Some l
 line_at lines k l below is = slice_get_read lines (length lines) k l refl below is
 
-same_line : (lines : List Line) (k : ℕ) (l m : Line) → slice_get lines k ≡ Some l → slice_get lines k ≡ Some m → l ≡ m
+pub same_line : (lines : List Line) (k : ℕ) (l m : Line) → slice_get lines k ≡ Some l → slice_get lines k ≡ Some m → l ≡ m
 same_line lines k l m one other = let both : Some l ≡ Some m = sym one ∙ other in cc
 
-pub telling_aside : (lines : List Line) (t : LineOutcome) (l : Line) → slice_get lines t.place ≡ Some l → NeedsNoRecord l.command t.outcome → (c : CatalogueValue) (history : List Record) → IsTellingRecorded c lines history t
-telling_aside lines t l at aside c history = λ m found. subst (λ (x : Line). IsLineRecorded c history x.command t.outcome) (same_line lines t.place l m at found) (aside c history)
+pub telling_aside : (lines : List Line) (stranger : List ℕ → Bool) (t : LineOutcome) (l : Line) → slice_get lines t.place ≡ Some l → NeedsNoRecord stranger l.command t.outcome
+    → (c : CatalogueValue) (history : List Record) → IsTellingRecorded c lines history stranger t
+telling_aside lines stranger t l at aside c history = λ m found. subst (λ (x : Line). IsLineRecorded c history stranger x.command t.outcome) (same_line lines t.place l m at found) (aside c history)
 
 -- a call of a federate, at its place
 pub call_at : (lines : List Line) (k : ℕ) (l : Line) (name own : List ℕ) (call : Call) → slice_get lines k ≡ Some l → l.command ≡ command.Federate name call → name ≡ own → IsCallAt lines k own call
@@ -187,23 +213,28 @@ module _ {L B P F : Type 0} where
   deed_recorded c call m (deed.Refused e) out p asks done =
       (grown_same m.caller (caller_of p) done.0.1, inr (e, done.0.0, elim asks [ inl unknown ↦ inl unknown | inr memory ↦ inr (inr (inl memory)) ]))
 
-  -- a federate stays the same while it is joined
-  pub player_stays : (execution : List ℕ) (f : ℕ) (m : FederateCaller) (p : Player L B P F) → StaysAs m p → (m.execution ≡ execution) × (m.federate ≡ f) → IsPlayerAs execution f p
-  player_stays execution f m (player.Joined n) stays was = (stays.1 ∙ was.0, stays.0 ∙ was.1)
-  player_stays execution f m (player.Gone l) stays was = tt
+  -- a federate stays the same while it is joined, and is gone once it has resigned
+  pub player_stays : (execution : List ℕ) (f : ℕ) (m : FederateCaller) (what : Deed) (out : Outcome) (p : Player L B P F) → DoesDeed m what out p → IsGoneBy what out p → (m.execution ≡ execution) × (m.federate ≡ f) → IsPlayerAs execution f p
+  player_stays execution f m what out (player.Joined n) done gone was = (done.1.1 ∙ was.0, done.1.0 ∙ was.1)
+  player_stays execution f m what out (player.Gone l) done gone was =
+      let asked : Act = act.Step (step.Call m.federate (service.Resign gone.0)) in
+      let told : HasTold m.caller m.execution asked out l.caller = subst (λ (d : Deed). HasDone m.caller m.execution m.federate d out l.caller) gone.1 done.0 in
+      let answered = done_recorded l.caller.transcript m.execution asked out answer.Done gone.2 (told_recorded m.caller l.caller m.execution asked out told).1 in
+      let own : IsResignedBy l.caller.transcript m.execution m.federate = (gone.0, answered) in
+      subst (λ (n : ℕ). IsResignedBy l.caller.transcript execution n) was.1 (subst (λ (x : List ℕ). IsResignedBy l.caller.transcript x m.federate) was.0 own)
 
 -- ---- what the infrastructure did itself
 pub destroyed_line : (old new : Caller) (l : Command) (execution : List ℕ) (given : Result (Unit {0}) Fault) (out : Outcome) → l ≡ command.Destroy → HasAnswered old execution act.Destroy (said nothing given) new → answer_given out ≡ said nothing given
     → HasExtended old new × IsOfficeLine new l out
 destroyed_line old new l execution given out is answered told =
     let both = told_recorded old new execution act.Destroy out (answer_told old new execution act.Destroy (said nothing given) out answered told) in
-    (both.0, λ c. subst (λ (x : Command). IsLineRecorded c new.transcript x out) (sym is) (execution, both.1))
+    (both.0, λ c stranger. subst (λ (x : Command). IsLineRecorded c new.transcript stranger x out) (sym is) (execution, both.1))
 
 pub created_line : (old new : Caller) (l : Command) (execution : List ℕ) (read : Option CatalogueValue) (given : Result (Unit {0}) Fault) (out : Outcome) → l ≡ command.Create → HasAnswered old execution (act.Create read) (said nothing given) new
     → answer_given out ≡ said nothing given → HasExtended old new × IsOfficeLine new l out
 created_line old new l execution read given out is answered told =
     let both = told_recorded old new execution (act.Create read) out (answer_told old new execution (act.Create read) (said nothing given) out answered told) in
-    (both.0, λ c. subst (λ (x : Command). IsLineRecorded c new.transcript x out) (sym is) (read, (execution, both.1)))
+    (both.0, λ c stranger. subst (λ (x : Command). IsLineRecorded c new.transcript stranger x out) (sym is) (read, (execution, both.1)))
 
 pub refused_joining : (old new : Caller) (execution name : List ℕ) (e : Fault) (X : Type 0) → (HasActed old execution (act.Step (step.Join name)) (outcome.Refused e) new ⊎ HasNotActed old e new) ⊎ ((e ≡ fault.LimitReached) × X × (new ≡ old))
     → IsJoiningRecorded new.transcript name (outcome.Refused e)
@@ -214,59 +245,61 @@ refused_joining old new execution name e X refused = elim refused [
 ]
 
 -- ---- outcomes by place
-noted_cases : (xs : List (Option Outcome)) (i j : ℕ) (v o : Outcome) → slice_index_or (slice_set xs i (Some v)) j None ≡ Some o → (slice_index_or xs j None ≡ Some o) ⊎ ((i ≡ j) × (v ≡ o))
+pub noted_cases : (xs : List (Option Outcome)) (i j : ℕ) (v o : Outcome) → slice_index_or (slice_set xs i (Some v)) j None ≡ Some o → (slice_index_or xs j None ≡ Some o) ⊎ ((i ≡ j) × (v ≡ o))
 noted_cases [] i j v o is = inl is
 noted_cases (x ∷ xs) zero zero v o is = inr (refl, cc)
 noted_cases (x ∷ xs) zero (suc j) v o is = inl is
 noted_cases (x ∷ xs) (suc i) zero v o is = inl is
 noted_cases (x ∷ xs) (suc i) (suc j) v o is = elim (noted_cases xs i j v o is) [ inl before ↦ inl before | inr now ↦ inr (ap (λ n. suc n) now.0, now.1) ]
 
-module _ (c : CatalogueValue) (lines : List Line) (history : List Record) where
-  pub noted_recorded : (outcomes : List (Option Outcome)) (t : LineOutcome) → AreOutcomesRecorded c lines history outcomes → IsTellingRecorded c lines history t → AreOutcomesRecorded c lines history (with_line_noted outcomes t)
+abbrev pub untold : Option Outcome
+untold = None
+
+pub none_at : (n place : ℕ) → slice_index_or (replicate n untold) place untold ≡ untold
+none_at zero place = refl
+none_at (suc n) zero = refl
+none_at (suc n) (suc place) = none_at n place
+
+module _ (c : CatalogueValue) (lines : List Line) (history : List Record) (stranger : List ℕ → Bool) where
+  pub noted_recorded : (outcomes : List (Option Outcome)) (t : LineOutcome) → AreOutcomesRecorded c lines history stranger outcomes → IsTellingRecorded c lines history stranger t
+      → AreOutcomesRecorded c lines history stranger (with_line_noted outcomes t)
   noted_recorded outcomes t before telling = λ place l o at is.
       elim (noted_cases outcomes t.place place t.outcome o is) [
         | inl old ↦ before place l o at old
-        | inr now ↦ subst (λ (x : Outcome). IsLineRecorded c history l.command x) now.1 (telling l (ap (λ n. slice_get lines n) now.0 ∙ at))
+        | inr now ↦ subst (λ (x : Outcome). IsLineRecorded c history stranger l.command x) now.1 (telling l (ap (λ n. slice_get lines n) now.0 ∙ at))
       ]
 
-  pub all_noted_recorded : (told : List LineOutcome) (outcomes : List (Option Outcome)) → AreOutcomesRecorded c lines history outcomes → AreTellingsRecorded c lines history told → AreOutcomesRecorded c lines history (with_lines_noted outcomes told)
+  pub all_noted_recorded : (told : List LineOutcome) (outcomes : List (Option Outcome)) → AreOutcomesRecorded c lines history stranger outcomes → AreTellingsRecorded c lines history stranger told
+      → AreOutcomesRecorded c lines history stranger (with_lines_noted outcomes told)
   all_noted_recorded [] outcomes before tellings = before
   all_noted_recorded (t ∷ ts) outcomes before tellings =
       all_noted_recorded ts (with_line_noted outcomes t) (noted_recorded outcomes t before (tellings 0 t (omega arith))) (λ k d below. tellings (suc k) d (omega (arith, below)))
 
-  abbrev untold : Option Outcome
-  untold = None
-
-  none_at : (n place : ℕ) → slice_index_or (replicate n untold) place untold ≡ untold
-  none_at zero place = refl
-  none_at (suc n) zero = refl
-  none_at (suc n) (suc place) = none_at n place
-
-  pub blank_recorded : (n : ℕ) → AreOutcomesRecorded c lines history (replicate n None)
+  pub blank_recorded : (n : ℕ) → AreOutcomesRecorded c lines history stranger (replicate n None)
   blank_recorded n = λ place l o at is. let none = none_at n place in absurd (cc)
 
 -- what is noted of one more line
-pub kept_noted : (lines : List Line) (old mid new : List (Option Outcome)) (t : LineOutcome) → KeepsRecorded lines old mid → new ≡ with_line_noted mid t → ((c : CatalogueValue) (history : List Record) → IsTellingRecorded c lines history t)
-    → KeepsRecorded lines old new
-kept_noted lines old mid new t before noted telling = λ c history recorded.
-    subst (λ (os : List (Option Outcome)). AreOutcomesRecorded c lines history os) (sym noted) (noted_recorded c lines history mid t (before c history recorded) (telling c history))
+pub kept_noted : (lines : List Line) (stranger : List ℕ → Bool) (old mid new : List (Option Outcome)) (t : LineOutcome) → KeepsRecorded lines stranger old mid → new ≡ with_line_noted mid t
+    → ((c : CatalogueValue) (history : List Record) → IsTellingRecorded c lines history stranger t) → KeepsRecorded lines stranger old new
+kept_noted lines stranger old mid new t before noted telling = λ c history recorded.
+    subst (λ (os : List (Option Outcome)). AreOutcomesRecorded c lines history stranger os) (sym noted) (noted_recorded c lines history stranger mid t (before c history recorded) (telling c history))
 
 -- the same, by what the infrastructure did itself
 module _ (lines : List Line) (own_old own_new : Caller) (grown : HasExtended own_old own_new) (old mid new : List (Option Outcome)) (before : KeepsOffice lines own_old old mid) where
   pub office_noted : (t : LineOutcome) (l : Line) → slice_get lines t.place ≡ Some l → new ≡ with_line_noted mid t → IsOfficeLine own_new l.command t.outcome → KeepsOffice lines own_new old new
-  office_noted t l at noted told = λ c history within recorded.
-      let kept = before c history (λ r there. within r (grown_within own_old own_new grown r there)) recorded in
-      let telling : IsTellingRecorded c lines history t = λ m found.
-      subst (λ (x : Line). IsLineRecorded c history x.command t.outcome) (same_line lines t.place l m at found) (line_in c history own_new.transcript l.command t.outcome within (told c)) in
-      subst (λ (os : List (Option Outcome)). AreOutcomesRecorded c lines history os) (sym noted) (noted_recorded c lines history mid t kept telling)
+  office_noted t l at noted told = λ c history stranger within recorded.
+      let kept = before c history stranger (λ r there. within r (grown_within own_old own_new grown r there)) recorded in
+      let telling : IsTellingRecorded c lines history stranger t = λ m found.
+      subst (λ (x : Line). IsLineRecorded c history stranger x.command t.outcome) (same_line lines t.place l m at found) (line_in c history own_new.transcript stranger l.command t.outcome within (told c stranger)) in
+      subst (λ (os : List (Option Outcome)). AreOutcomesRecorded c lines history stranger os) (sym noted) (noted_recorded c lines history stranger mid t kept telling)
 
   pub office_same : new ≡ mid → KeepsOffice lines own_new old new
-  office_same same = λ c history within recorded.
-      let kept = before c history (λ r there. within r (grown_within own_old own_new grown r there)) recorded in
-      subst (λ (os : List (Option Outcome)). AreOutcomesRecorded c lines history os) (sym same) kept
+  office_same same = λ c history stranger within recorded.
+      let kept = before c history stranger (λ r there. within r (grown_within own_old own_new grown r there)) recorded in
+      subst (λ (os : List (Option Outcome)). AreOutcomesRecorded c lines history stranger os) (sym same) kept
 
-pub kept_same : (lines : List Line) (old mid new : List (Option Outcome)) → KeepsRecorded lines old mid → new ≡ mid → KeepsRecorded lines old new
-kept_same lines old mid new before same = λ c history recorded. subst (λ (os : List (Option Outcome)). AreOutcomesRecorded c lines history os) (sym same) (before c history recorded)
+pub kept_same : (lines : List Line) (stranger : List ℕ → Bool) (old mid new : List (Option Outcome)) → KeepsRecorded lines stranger old mid → new ≡ mid → KeepsRecorded lines stranger old new
+kept_same lines stranger old mid new before same = λ c history recorded. subst (λ (os : List (Option Outcome)). AreOutcomesRecorded c lines history stranger os) (sym same) (before c history recorded)
 
 -- ---- what is left behind
 pub left_behind : (old mid new : List Leaver) (first second : Leaver) (c : Caller) → mid ≡ old ++ first ∷ [] → new ≡ mid ++ second ∷ [] → first.caller ≡ c → LeavesBehind old c new
@@ -282,7 +315,7 @@ left_behind old mid new first second c one two own = λ history all.
 module _ {L B P F : Type 0} where
   pub gathered_more : (lives : List (Life L B P F)) (life : Life L B P F) (some all : List Leaver) (old mid new : List (Option Outcome)) → GathersRecorded lives some old mid → new ≡ with_lines_noted mid life.told.items
       → LeavesBehind some (caller_of life.player) all → GathersRecorded (lives ++ life ∷ []) all old new
-  gathered_more lives life some all old mid new before noted behind = λ c lines execution history recorded joined lefts outcomes.
+  gathered_more lives life some all old mid new before noted behind = λ c lines execution history stranger recorded joined lefts outcomes.
       let left = behind history lefts in
       let Recorded : Life L B P F → Type 0 = IsLifeRecorded c lines execution in
       let Joined : Life L B P F → Type 0 = λ (x : Life L B P F). HasJoined history execution x.name x.number in
@@ -290,9 +323,9 @@ module _ {L B P F : Type 0} where
       let others_joined : All Joined lives = λ k d below. All-contains Joined (lives ++ life ∷ []) (get_or lives k d) joined (Contains-append_left lives (life ∷ []) (get_or lives k d) (Contains-get_or lives k d below)) in
       let own : Recorded life = All-contains Recorded (lives ++ life ∷ []) life recorded (Contains-push lives life) in
       let own_joined : Joined life = All-contains Joined (lives ++ life ∷ []) life joined (Contains-push lives life) in
-      let so_far = before c lines execution history others others_joined left.0 outcomes in
-      let tellings = tellings_named c lines history (caller_of life.player).transcript execution life.number life.name life.told.items own_joined left.1 own.1 in
-      subst (λ (os : List (Option Outcome)). AreOutcomesRecorded c lines history os) (sym noted) (all_noted_recorded c lines history life.told.items mid so_far tellings)
+      let so_far = before c lines execution history stranger others others_joined left.0 outcomes in
+      let tellings = tellings_named c lines history (caller_of life.player).transcript stranger execution life.number life.name life.told.items own_joined left.1 own.1 in
+      subst (λ (os : List (Option Outcome)). AreOutcomesRecorded c lines history stranger os) (sym noted) (all_noted_recorded c lines history stranger life.told.items mid so_far tellings)
 
   pub gathered_all_of : (some all : List (Life L B P F)) (lefts : List Leaver) (old new : List (Option Outcome)) → some ≡ all → GathersRecorded some lefts old new → GathersRecorded all lefts old new
   gathered_all_of some all lefts old new same h = subst (λ (ls : List (Life L B P F)). GathersRecorded ls lefts old new) same h

@@ -1,14 +1,17 @@
 -- What is told of the lines of federates, by the records of the history
-use Rattle.std.specs.Prelude.{◌≡◌, ◌⊎◌, ◌++◌, ℕ, List, [], Option, None, Some, Result, Ok, Err, slice_get, slice_index_or}
+use Rattle.std.specs.Prelude.{◌≡◌, ◌⊎◌, ◌++◌, ℕ, List, [], Bool, true, not, Option, None, Some, Result, Ok, Err, slice_get, slice_index_or}
 use Rattle.hla_base.specs.declared.fault.Fault.{Fault}
 use Rattle.hla_base.specs.declared.fault.Fault.TheVariants as fault
-use Rattle.std.specs.List.{All, Contains}
+use Rattle.std.specs.List.{All, Contains, list_any}
+use Rattle.std.specs.Str.{bytes_eq}
 use Rattle.hla_catalogue.specs.CatalogueValue.{CatalogueValue}
 use Rattle.hla_commands.specs.declared.lines.Call.{Call}
 use Rattle.hla_commands.specs.declared.lines.Command.{Command}
 use Rattle.hla_commands.specs.declared.lines.Command.TheVariants as command
 use Rattle.hla_commands.specs.declared.lines.Line.{Line}
+use Rattle.hla_machine.specs.declared.service.ResignAction.{ResignAction}
 use Rattle.hla_machine.specs.declared.service.Service.{Service}
+use Rattle.hla_machine.specs.declared.service.Service.TheVariants as service
 use Rattle.hla_machine.specs.declared.step.Act.{Act}
 use Rattle.hla_machine.specs.declared.step.Act.TheVariants as act
 use Rattle.hla_machine.specs.declared.step.Answer.{Answer}
@@ -54,14 +57,20 @@ pub record HasCallOf (c : CatalogueValue) (records : List Record) (execution : L
   pub asks : service_of c call ≡ Ok asked
   pub answered : HasAnswerOf records execution (act_of_call asked f) given
 
--- a call that is refused without a record: what it asks for is not to be had by the names of the catalogue, the history was full, memory
--- ran out, or who is to call is not joined
-abbrev pub IsUnmade : CatalogueValue → Call → Outcome → Type 0
-IsUnmade c call out = (e : Fault) × (out ≡ outcome.Refused e) × ((service_of c call ≡ Err e) ⊎ (e ≡ fault.HistoryFull) ⊎ (e ≡ fault.OutOfMemory) ⊎ (e ≡ fault.FederateNotExecutionMember))
+-- by the records this federate has resigned
+abbrev pub IsResignedBy : List Record → List ℕ → ℕ → Type 0
+IsResignedBy records execution f = (way : ResignAction) × HasAnswerOf records execution (act.Step (step.Call f (service.Resign way))) (Ok answer.Done)
+
+-- a call of this federate that is refused without a record: what it asks for is not to be had by the names of the catalogue, the history
+-- was full, memory ran out, or the federate has resigned
+abbrev pub IsUnmade : CatalogueValue → List Record → List ℕ → ℕ → Call → Outcome → Type 0
+IsUnmade c records execution f call out =
+    (e : Fault) × (out ≡ outcome.Refused e)
+    × ((service_of c call ≡ Err e) ⊎ (e ≡ fault.HistoryFull) ⊎ (e ≡ fault.OutOfMemory) ⊎ ((e ≡ fault.FederateNotExecutionMember) × IsResignedBy records execution f))
 
 -- a call of this federate is told as a record answers, or was not made
 abbrev pub IsCallRecorded : CatalogueValue → List Record → List ℕ → ℕ → Call → Outcome → Type 0
-IsCallRecorded c records execution f call out = HasCallOf c records execution f call (answer_given out) ⊎ IsUnmade c call out
+IsCallRecorded c records execution f call out = HasCallOf c records execution f call (answer_given out) ⊎ IsUnmade c records execution f call out
 
 -- one of the records is of the joining of a federate of this name, and answers this number
 abbrev pub HasJoined : List Record → List ℕ → List ℕ → ℕ → Type 0
@@ -74,9 +83,21 @@ pub record IsCallAnswered (c : CatalogueValue) (records : List Record) (name : L
   pub joined : HasJoined records execution name federate
   pub called : HasCallOf c records execution federate call given
 
--- a call of the federate of this name is told as a record answers, or was not made
-abbrev pub IsNamedCallRecorded : CatalogueValue → List Record → List ℕ → Call → Outcome → Type 0
-IsNamedCallRecorded c records name call out = IsCallAnswered c records name call (answer_given out) ⊎ IsUnmade c call out
+-- by the records a federate has joined under this name, and what the call asks for was refused without a record
+pub record IsCallUnmade (c : CatalogueValue) (records : List Record) (name : List ℕ) (call : Call) (out : Outcome) : Type 0 where
+  pub execution : List ℕ
+  pub federate : ℕ
+  pub joined : HasJoined records execution name federate
+  pub unmade : IsUnmade c records execution federate call out
+
+-- a call is refused since its name is a stranger's, under which nobody has joined
+abbrev pub IsStrangersCall : (List ℕ → Bool) → List ℕ → Outcome → Type 0
+IsStrangersCall stranger name out = (out ≡ outcome.Refused fault.FederateNotExecutionMember) × (stranger name ≡ true)
+
+-- a call of the federate of this name is told as a record answers, or was not made, or nobody has joined under the name
+abbrev pub IsNamedCallRecorded : CatalogueValue → List Record → (List ℕ → Bool) → List ℕ → Call → Outcome → Type 0
+IsNamedCallRecorded c records stranger name call out =
+    IsCallAnswered c records name call (answer_given out) ⊎ IsCallUnmade c records name call out ⊎ IsStrangersCall stranger name out
 
 -- what the infrastructure itself does in an execution is told as a record answers, or has none
 abbrev pub IsOfficeRecorded : List Record → Act → Outcome → Type 0
@@ -86,30 +107,41 @@ IsOfficeRecorded records a out = (execution : List ℕ) × IsActRecorded records
 abbrev pub IsJoiningRecorded : List Record → List ℕ → Outcome → Type 0
 IsJoiningRecorded records name out = IsOfficeRecorded records (act.Step (step.Join name)) out ⊎ (out ≡ outcome.Refused fault.LimitReached)
 
--- a line that is done is told as a record answers, or why there is none; lines that carry or announce are not done
-abbrev pub IsLineRecorded : CatalogueValue → List Record → Command → Outcome → Type 0
-IsLineRecorded c records command.Create out = (read : Option CatalogueValue) × IsOfficeRecorded records (act.Create read) out
-IsLineRecorded c records command.Destroy out = IsOfficeRecorded records act.Destroy out
-IsLineRecorded c records (command.Join name) out = IsJoiningRecorded records name out
-IsLineRecorded c records (command.Carry from to) out = Unit {0}
-IsLineRecorded c records (command.Announce name) out = Unit {0}
-IsLineRecorded c records (command.Federate name call) out = IsNamedCallRecorded c records name call out
+-- a line that is done is told as a record answers, or why there is none, where these names are strangers'; lines that carry or announce are
+-- not done
+abbrev pub IsLineRecorded : CatalogueValue → List Record → (List ℕ → Bool) → Command → Outcome → Type 0
+IsLineRecorded c records stranger command.Create out = (read : Option CatalogueValue) × IsOfficeRecorded records (act.Create read) out
+IsLineRecorded c records stranger command.Destroy out = IsOfficeRecorded records act.Destroy out
+IsLineRecorded c records stranger (command.Join name) out = IsJoiningRecorded records name out
+IsLineRecorded c records stranger (command.Carry from to) out = Unit {0}
+IsLineRecorded c records stranger (command.Announce name) out = Unit {0}
+IsLineRecorded c records stranger (command.Federate name call) out = IsNamedCallRecorded c records stranger name call out
 
 -- ---- what is told of lines
 -- the line at a place has the federate of this name do what the call asks
 abbrev pub IsCallAt : List Line → ℕ → List ℕ → Call → Type 0
 IsCallAt lines place name call = (l : Line) → slice_get lines place ≡ Some l → l.command ≡ command.Federate name call
 
-abbrev pub IsTellingRecorded : CatalogueValue → List Line → List Record → LineOutcome → Type 0
-IsTellingRecorded c lines records t = (l : Line) → slice_get lines t.place ≡ Some l → IsLineRecorded c records l.command t.outcome
+abbrev pub IsTellingRecorded : CatalogueValue → List Line → List Record → (List ℕ → Bool) → LineOutcome → Type 0
+IsTellingRecorded c lines records stranger t = (l : Line) → slice_get lines t.place ≡ Some l → IsLineRecorded c records stranger l.command t.outcome
 
-abbrev pub AreTellingsRecorded : CatalogueValue → List Line → List Record → List LineOutcome → Type 0
-AreTellingsRecorded c lines records told = All (IsTellingRecorded c lines records) told
+abbrev pub AreTellingsRecorded : CatalogueValue → List Line → List Record → (List ℕ → Bool) → List LineOutcome → Type 0
+AreTellingsRecorded c lines records stranger told = All (IsTellingRecorded c lines records stranger) told
 
 -- what is told of each line, of those that are told of
-abbrev pub AreOutcomesRecorded : CatalogueValue → List Line → List Record → List (Option Outcome) → Type 0
-AreOutcomesRecorded c lines records outcomes =
-    (place : ℕ) (l : Line) (o : Outcome) → slice_get lines place ≡ Some l → slice_index_or outcomes place None ≡ Some o → IsLineRecorded c records l.command o
+abbrev pub AreOutcomesRecorded : CatalogueValue → List Line → List Record → (List ℕ → Bool) → List (Option Outcome) → Type 0
+AreOutcomesRecorded c lines records stranger outcomes =
+    (place : ℕ) (l : Line) (o : Outcome) → slice_get lines place ≡ Some l → slice_index_or outcomes place None ≡ Some o → IsLineRecorded c records stranger l.command o
+
+-- of no line that joins under this name it is told that a federate has joined
+abbrev pub IsStranger : List Line → List (Option Outcome) → List ℕ → Type 0
+IsStranger lines outcomes name =
+    (place : ℕ) (l : Line) (f : ℕ) → slice_get lines place ≡ Some l → l.command ≡ command.Join name → slice_index_or outcomes place None ≡ Some (outcome.Done (answer.Federate f)) → ⊥
+
+-- of lines that join the same is told as before, or nothing was told of them and nothing is
+abbrev pub KeepsJoinings : List Line → List (Option Outcome) → List (Option Outcome) → Type 0
+KeepsJoinings lines old new =
+    (place : ℕ) (l : Line) (name : List ℕ) (o : Outcome) → slice_get lines place ≡ Some l → l.command ≡ command.Join name → slice_index_or new place None ≡ Some o → slice_index_or old place None ≡ Some o
 
 -- ---- federates and what they leave behind
 -- what is told of a line is told of a call of the federate of this name, as these records of the federate answer
@@ -119,10 +151,10 @@ IsOwnTelling c lines records execution f name t = (call : Call) × IsCallAt line
 abbrev pub AreOwnTellings : CatalogueValue → List Line → List Record → List ℕ → ℕ → List ℕ → List LineOutcome → Type 0
 AreOwnTellings c lines records execution f name told = All (IsOwnTelling c lines records execution f name) told
 
--- while it is joined it is this federate of the execution
+-- while it is joined it is this federate of the execution, and where it is gone, that has resigned by its own records
 abbrev pub IsPlayerAs : {L B P F : Type 0} → List ℕ → ℕ → Player L B P F → Type 0
 IsPlayerAs execution f (player.Joined m) = (m.execution ≡ execution) × (m.federate ≡ f)
-IsPlayerAs execution f (player.Gone l) = Unit {0}
+IsPlayerAs execution f (player.Gone l) = IsResignedBy l.caller.transcript execution f
 
 -- what a federate's life tells is told of its own lines, and is in its own transcript
 abbrev pub IsLifeRecorded : {L B P F : Type 0} → CatalogueValue → List Line → List ℕ → Life L B P F → Type 0
@@ -139,6 +171,30 @@ IsFresh execution life = IsPlayerAs execution life.number life.player × (life.t
 
 abbrev pub AreFresh : {L B P F : Type 0} → List ℕ → List (Life L B P F) → Type 0
 AreFresh execution lives = All (IsFresh execution) lives
+
+-- one of the lives has this name
+abbrev pub has_life : {L B P F : Type 0} → List (Life L B P F) → List ℕ → Bool
+has_life {L = L} {B = B} {P = P} {F = F} lives name = list_any (λ (life : Life L B P F). bytes_eq life.name name) lives
+
+-- nobody has joined under this name
+abbrev pub is_stranger : {L B P F : Type 0} → List (Life L B P F) → List ℕ → Bool
+is_stranger lives name = not (has_life lives name)
+
+-- who is told to have joined by what a command asks for is one of the lives
+abbrev pub HasLifeOf : {L B P F : Type 0} → List (Life L B P F) → Command → Outcome → Type 0
+HasLifeOf lives asked out = (name : List ℕ) (f : ℕ) → asked ≡ command.Join name → out ≡ outcome.Done (answer.Federate f) → has_life lives name ≡ true
+
+-- the same of all lines that are told of
+abbrev pub HasEachLife : {L B P F : Type 0} → List Line → List (Life L B P F) → List (Option Outcome) → Type 0
+HasEachLife lines lives outcomes = (place : ℕ) (l : Line) (o : Outcome) → slice_get lines place ≡ Some l → slice_index_or outcomes place None ≡ Some o → HasLifeOf lives l.command o
+
+-- nothing is told of any line
+abbrev pub AreNotTold : List (Option Outcome) → Type 0
+AreNotTold outcomes = (place : ℕ) → slice_index_or outcomes place None ≡ None
+
+-- whoever is among the lives stays there
+abbrev pub KeepsLives : {L B P F : Type 0} → List (Life L B P F) → List (Life L B P F) → Type 0
+KeepsLives old new = (name : List ℕ) → has_life old name ≡ true → has_life new name ≡ true
 
 -- by the records each has joined under its name, and has its number
 abbrev pub AreJoined : {L B P F : Type 0} → List Record → List ℕ → List (Life L B P F) → Type 0
@@ -160,35 +216,46 @@ abbrev pub LeavesBehind : List Leaver → Caller → List Leaver → Type 0
 LeavesBehind old c new = (history : List Record) → AreTranscriptsIn history new → AreTranscriptsIn history old × IsTranscriptIn history c.transcript
 
 -- what is told of a line needs no record
-abbrev pub NeedsNoRecord : Command → Outcome → Type 0
-NeedsNoRecord command out = (c : CatalogueValue) (records : List Record) → IsLineRecorded c records command out
+abbrev pub NeedsNoRecord : (List ℕ → Bool) → Command → Outcome → Type 0
+NeedsNoRecord stranger command out = (c : CatalogueValue) (records : List Record) → IsLineRecorded c records stranger command out
 
 -- what is told of lines stays recorded
-abbrev pub KeepsRecorded : List Line → List (Option Outcome) → List (Option Outcome) → Type 0
-KeepsRecorded lines old new = (c : CatalogueValue) (history : List Record) → AreOutcomesRecorded c lines history old → AreOutcomesRecorded c lines history new
+abbrev pub KeepsRecorded : List Line → (List ℕ → Bool) → List (Option Outcome) → List (Option Outcome) → Type 0
+KeepsRecorded lines stranger old new = (c : CatalogueValue) (history : List Record) → AreOutcomesRecorded c lines history stranger old → AreOutcomesRecorded c lines history stranger new
 
 -- what is told of lines stays recorded, by what the infrastructure did itself until now
 abbrev pub KeepsOffice : List Line → Caller → List (Option Outcome) → List (Option Outcome) → Type 0
-KeepsOffice lines own old new = (c : CatalogueValue) (history : List Record) → IsTranscriptIn history own.transcript → AreOutcomesRecorded c lines history old → AreOutcomesRecorded c lines history new
+KeepsOffice lines own old new =
+    (c : CatalogueValue) (history : List Record) (stranger : List ℕ → Bool) → IsTranscriptIn history own.transcript → AreOutcomesRecorded c lines history stranger old → AreOutcomesRecorded c lines history stranger new
 
 -- a line is told as what the infrastructure did itself answers
 abbrev pub IsOfficeLine : Caller → Command → Outcome → Type 0
-IsOfficeLine own command out = (c : CatalogueValue) → IsLineRecorded c own.transcript command out
+IsOfficeLine own command out = (c : CatalogueValue) (stranger : List ℕ → Bool) → IsLineRecorded c own.transcript stranger command out
 
 -- what lives told was added to what was told before, and they left their transcripts behind
 abbrev pub GathersRecorded : {L B P F : Type 0} → List (Life L B P F) → List Leaver → List (Option Outcome) → List (Option Outcome) → Type 0
 GathersRecorded lives lefts old new =
-    (c : CatalogueValue) (lines : List Line) (execution : List ℕ) (history : List Record) → All (IsLifeRecorded c lines execution) lives → AreJoined history execution lives → AreTranscriptsIn history lefts → AreOutcomesRecorded c lines history old
-    → AreOutcomesRecorded c lines history new
+    (c : CatalogueValue) (lines : List Line) (execution : List ℕ) (history : List Record) (stranger : List ℕ → Bool) → All (IsLifeRecorded c lines execution) lives → AreJoined history execution lives → AreTranscriptsIn history lefts
+    → AreOutcomesRecorded c lines history stranger old → AreOutcomesRecorded c lines history stranger new
+
+-- what lives told was of lines of their own, and of none that joins
+abbrev pub GathersCalls : {L B P F : Type 0} → List (Life L B P F) → List (Option Outcome) → List (Option Outcome) → Type 0
+GathersCalls lives old new = (c : CatalogueValue) (lines : List Line) (execution : List ℕ) → All (IsLifeRecorded c lines execution) lives → KeepsJoinings lines old new
 
 -- ---- a run
+-- what is told of all lines is recorded, and where a name is taken for a stranger's, of no line is it told that one has joined under it
+pub record AreAllRecorded (c : CatalogueValue) (lines : List Line) (history : List Record) (outcomes : List (Option Outcome)) : Type 0 where
+  pub stranger : List ℕ → Bool
+  pub recorded : AreOutcomesRecorded c lines history stranger outcomes
+  pub strangers : (name : List ℕ) → stranger name ≡ true → IsStranger lines outcomes name
+
 -- where the history has what all have left behind, and what the infrastructure did itself, it records what is told of the lines
 abbrev pub RecordsTold : CatalogueValue → List Line → List (Option Outcome) → List Leaver → Caller → Type 0
-RecordsTold c lines outcomes lefts own = (history : List Record) → AreTranscriptsIn history lefts → IsTranscriptIn history own.transcript → AreOutcomesRecorded c lines history outcomes
+RecordsTold c lines outcomes lefts own = (history : List Record) → AreTranscriptsIn history lefts → IsTranscriptIn history own.transcript → AreAllRecorded c lines history outcomes
 
 -- what was written is told of lines as the history records it
 abbrev pub IsToldRecorded : List Record → CatalogueValue → List Line → Option (List ℕ) → Option (List ℕ) → Type 0
-IsToldRecorded history c lines old new = (told : AreTold c lines old new) × AreOutcomesRecorded c lines history told.outcomes
+IsToldRecorded history c lines old new = (told : AreTold c lines old new) × AreAllRecorded c lines history told.outcomes
 
 abbrev pub IsRunRecorded : List Record → List ℕ → List ℕ → Option (List ℕ) → Option (List ℕ) → Type 0
-IsRunRecorded history fed script old new = (run : IsRunFrom fed script old new) × AreOutcomesRecorded run.catalogue run.lines history run.outcomes
+IsRunRecorded history fed script old new = (run : IsRunFrom fed script old new) × AreAllRecorded run.catalogue run.lines history run.outcomes

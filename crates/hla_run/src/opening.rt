@@ -2,7 +2,8 @@
 
 ghost use Rattle.std.specs.Prelude.{◌≡◌, ◌<◌, ◌≤◌, drop, length, IfOk, IfSome, OnOk};
 ghost use Rattle.hla_outcomes.specs.Joining.{joins, joins_by};
-ghost use Rattle.hla_run.specs.Recorded.{AreFresh, AreJoined, HasExtended, IsJoiningRecorded, IsOfficeLine, KeepsOffice, KeepsRecorded};
+ghost use Rattle.hla_commands.specs.declared.lines.Command.TheVariants as command;
+ghost use Rattle.hla_run.specs.Recorded.{AreFresh, AreJoined, AreNotTold, HasEachLife, HasExtended, HasLifeOf, IsJoiningRecorded, IsOfficeLine, KeepsJoinings, KeepsLives, KeepsOffice, KeepsRecorded, has_life, is_stranger};
 
 use crate::life::Life;
 use hla_base::{ExecutionName, Fault, List};
@@ -45,6 +46,8 @@ fn join_next<L: Ledger + Naming, B: FederateAmbassador, P: Publisher<L>, F: Exec
         (AreFresh execution lives.old.items → AreFresh execution lives.new.items) }
     ensures joined { OnOk result (AreJoined rti.old.own.transcript execution lives.old.items
         → AreJoined rti.new.own.transcript execution lives.new.items) }
+    ensures lives { OnOk result (KeepsLives lives.old.items lives.new.items) }
+    ensures life { IfOk result (HasLifeOf lives.new.items (command.Join name.now)) }
 {
     let own = copied(alloc, name)?;
     let name = copied(alloc, name)?;
@@ -92,6 +95,8 @@ fn open_by<L: Ledger + Naming, B: FederateAmbassador, P: Publisher<L>, F: Execut
     ensures joined { OnOk result (AreJoined rti.old.own.transcript execution lives.old.items
         → AreJoined rti.new.own.transcript execution lives.new.items) }
     ensures recorded { IfOk result (λ out. IfSome out (IsOfficeLine rti.new.own command.now)) }
+    ensures lives { OnOk result (KeepsLives lives.old.items lives.new.items) }
+    ensures life { IfOk result (λ out. IfSome out (HasLifeOf lives.new.items command.now)) }
 {
     match command {
         Command::Create => Ok(Some(outcome_of_done(rti.create(rt, execution, fed)))),
@@ -123,6 +128,8 @@ pub fn open<L: Ledger + Naming, B: FederateAmbassador, P: Publisher<L>, F: Execu
     ensures fresh { IfOk result (λ lives. AreFresh execution lives.items) }
     ensures joined { IfOk result (λ lives. AreJoined rti.new.own.transcript execution lives.items) }
     ensures recorded { OnOk result (KeepsOffice lines.now rti.new.own outcomes.old outcomes.new) }
+    ensures lives { IfOk result (λ lives. AreNotTold outcomes.old
+        → HasEachLife lines.now lives.items outcomes.new) }
 {
     let mut lives = Vec::new(alloc);
     for (place, line) in lines.iter().enumerate() {
@@ -154,6 +161,7 @@ pub fn destroy<L: Ledger + Naming, B: FederateAmbassador, P: Publisher<L>, F: Ex
     ensures each { length outcomes.new ≡ length outcomes.old }
     ensures own { HasExtended rti.old.own rti.new.own }
     ensures recorded { KeepsOffice lines.now rti.new.own outcomes.old outcomes.new }
+    ensures joinings { KeepsJoinings lines.now outcomes.old outcomes.new }
 {
     for (place, line) in lines.iter().enumerate() {
         if let Command::Destroy = &line.command {
@@ -167,7 +175,9 @@ pub fn destroy<L: Ledger + Naming, B: FederateAmbassador, P: Publisher<L>, F: Ex
 fn has_joined<L: Ledger + Naming, B: FederateAmbassador, P: Publisher<L>, F: Execution>(
     lives: &[Life<L, B, P, F>],
     name: &[u8],
-) -> bool {
+) -> bool
+    ensures { result ≡ has_life lives.now name.now }
+{
     lives.iter().any(|l| l.name.as_slice() == name)
 }
 
@@ -178,7 +188,8 @@ pub fn refuse_strangers<L: Ledger + Naming, B: FederateAmbassador, P: Publisher<
     outcomes: &mut Outcomes,
 )
     ensures each { length outcomes.new ≡ length outcomes.old }
-    ensures recorded { KeepsRecorded lines.now outcomes.old outcomes.new }
+    ensures recorded { KeepsRecorded lines.now (is_stranger lives.now) outcomes.old outcomes.new }
+    ensures joinings { KeepsJoinings lines.now outcomes.old outcomes.new }
 {
     for (place, line) in lines.iter().enumerate() {
         if let Command::Federate { name, .. } = &line.command {

@@ -8,7 +8,7 @@ ghost use Rattle.std.specs.List.{All};
 ghost use Rattle.hla_base.specs.Limits.{ledger_parts};
 ghost use Rattle.hla_players.specs.Deeds.{caller_of};
 ghost use Rattle.hla_outcomes.specs.Joining.{joins, script_joins};
-ghost use Rattle.hla_run.specs.Recorded.{GathersRecorded, IsLifeOf, IsLifeRecorded, IsRunRecorded, IsToldRecorded, LeavesBehind, RecordsTold};
+ghost use Rattle.hla_run.specs.Recorded.{GathersCalls, GathersRecorded, IsLifeOf, IsLifeRecorded, IsRunRecorded, IsToldRecorded, LeavesBehind, RecordsTold};
 ghost use Rattle.hla_outcomes.specs.Running.{AreAllDone, AreTold, IsRunFrom, IsSeen, StopsRun, StopsTelling, is_unwritten_run, with_lines_noted};
 
 use crate::life::{Life, Stage, live};
@@ -70,6 +70,7 @@ fn gather_all<L: Ledger + Naming, B: FederateAmbassador, P: Publisher<L>, F: Exe
     ensures each { OnOk result (length outcomes.new ≡ length outcomes.old) }
     ensures recorded { IfOk result (λ lefts. GathersRecorded lives.items lefts.items outcomes.old
         outcomes.new) }
+    ensures calls { OnOk result (GathersCalls lives.items outcomes.old outcomes.new) }
 {
     let mut lefts = Vec::new(alloc);
     for life in lives {
@@ -259,7 +260,9 @@ pub fn run_scripts<
 
     // What was written of a line is what a record of the history answers: of a federate's line, the record of the act that it
     // asks the federate for which has joined under its name, by another record of the same execution; of a line that creates,
-    // destroys or joins, the record of that. Or it is refused without a record, for one of the reasons that `IsLineRecorded` names.
+    // destroys or joins, the record of that. Or it is refused without a record, for one of the reasons that `IsLineRecorded` names:
+    // a federate's line as of one that is not joined only where it has resigned, by another record, or where no line that joins
+    // under its name is told to have joined one.
     ensures recorded { IfOk result (λ r. IsRunRecorded r.closed fed.now script.now
         (W.contents out.old.inner) (W.contents out.new.inner)) }
 

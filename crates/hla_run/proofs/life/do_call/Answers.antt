@@ -24,15 +24,20 @@ returns-in_default g c =
     let m = c.in-Joined.federate in
     let catalogue = c.args.stage.now.catalogue.now in
     let new = c.do_deed.result.player in
-    let both = deed_recorded catalogue c.args.call.now m c.of.result c.do_deed.result.outcome new c.of.ensures c.do_deed.ensures in
+    let both = deed_recorded catalogue c.args.call.now m c.of.result c.do_deed.result.outcome new c.of.ensures c.do_deed.ensures.done in
     let grown : HasExtended (caller_of c.args.player) (caller_of new) = rw c.in-Joined.is both.0 in
     record {
       extended = grown;
-      same = λ execution f before. player_stays execution f m new c.do_deed.ensures.1 (subst (λ (p : Player g.row.L.Denot g.row.B.Denot g.row.P.Denot g.row.F.Denot). IsPlayerAs execution f p) c.in-Joined.is before);
+      same = λ execution f before. player_stays execution f m c.of.result c.do_deed.result.outcome new c.do_deed.ensures.done c.do_deed.ensures.gone (subst (λ (p : Player g.row.L.Denot g.row.B.Denot g.row.P.Denot g.row.F.Denot). IsPlayerAs execution f p) c.in-Joined.is before);
       recorded = λ execution f before.
           let was = subst (λ (p : Player g.row.L.Denot g.row.B.Denot g.row.P.Denot g.row.F.Denot). IsPlayerAs execution f p) c.in-Joined.is before in
           call_of catalogue (caller_of new).transcript m.execution execution m.federate f c.args.call.now c.do_deed.result.outcome was.0 was.1 both.1;
     }
 
 pub returns-in-Gone-clause-recorded : goal.returns-in-Gone-clause-recorded
-returns-in-Gone-clause-recorded g c = λ execution f before. inr (unjoined c.args.stage.now.catalogue.now c.args.call.now)
+returns-in-Gone-clause-recorded g c = λ execution f before.
+    let gone = subst (λ (p : Player g.row.L.Denot g.row.B.Denot g.row.P.Denot g.row.F.Denot). IsPlayerAs execution f p) c.in-Gone.is before in
+    inr (unjoined c.args.stage.now.catalogue.now c.in-Gone.left.caller.transcript execution f c.args.call.now gone)
+
+pub returns-in-Gone-clause-same : goal.returns-in-Gone-clause-same
+returns-in-Gone-clause-same g c = λ execution f before. subst (λ (p : Player g.row.L.Denot g.row.B.Denot g.row.P.Denot g.row.F.Denot). IsPlayerAs execution f p) c.in-Gone.is before

@@ -1,14 +1,17 @@
-use Rattle.std.proofs.Common.{◌≡◌, ◌∙◌, List, ℕ, Ok, ap, inl, refl, subst, sym}
+use Rattle.std.proofs.Common.{◌≡◌, ◌∙◌, List, ℕ, Ok, true, ap, inl, refl, subst, sym}
 use Rattle.std.specs.Result.{is_ok}
 use Rattle.std.proofs.lemmas.Bool.{cond-true}
+use Rattle.std.proofs.lemmas.Slice.Eq.{bytes_eq-Decides}
 use Rattle.hla_machine.specs.declared.step.Act.TheVariants as act
 use Rattle.hla_machine.specs.declared.step.Answer.TheVariants as answer
 use Rattle.hla_machine.specs.declared.step.Outcome.TheVariants as outcome
 use Rattle.hla_machine.specs.declared.step.Step.TheVariants as step
 use Rattle.hla_callers.specs.Callers.{Caller, FederateCaller}
-use Rattle.hla_run.specs.Recorded.{AreFresh, AreJoined, HasJoined, IsJoiningRecorded}
+use Rattle.hla_commands.specs.declared.lines.Command.TheVariants as command
+use Rattle.hla_run.specs.Recorded.{AreFresh, AreJoined, HasJoined, IsJoiningRecorded, KeepsLives, has_life}
 use Rattle.hla_run.specs.declared.life.Life.{Life}
 use Rattle.hla_run.proofs.RecordLemmas.{acted_extended, acted_recorded, fresh_more, grown_within, joined_in, joined_more, refused_joining}
+use Rattle.hla_run.proofs.StrangerLemmas.{life_last, lives_more}
 use Rattle.hla_run.proofs.opening.join_next.Goals as goal
 
 pub returns-in-Err-clause-recorded : goal.returns-in-Err-clause-recorded
@@ -50,3 +53,22 @@ returns-clause-joined g c = λ before.
     let all = joined_more own.transcript execution c.args.lives.now.items _ others numbered in
     let kept = subst (λ (ls : List (Life g.row.L.Denot g.row.B.Denot g.row.P.Denot g.row.F.Denot)). AreJoined own.transcript execution ls) (sym pushed) all in
     subst (λ (x : Caller). AreJoined x.transcript execution c.push.new.self.items) (sym c.courier.ensures.own) kept
+
+pub returns-clause-lives : goal.returns-clause-lives
+returns-clause-lives g c =
+    let pushed = c.push.ensures.items ∙ cond-true _ _ _ (ap is_ok c.in-Ok-push.is) in
+    subst (λ (ls : List (Life g.row.L.Denot g.row.B.Denot g.row.P.Denot g.row.F.Denot)). KeepsLives c.args.lives.now.items ls) (sym pushed) (lives_more c.args.lives.now.items _)
+
+pub returns-clause-life : goal.returns-clause-life
+returns-clause-life g c = λ name f is done.
+    let pushed = c.push.ensures.items ∙ cond-true _ _ _ (ap is_ok c.in-Ok-push.is) in
+    let same : c.args.name.now ≡ name = let both : command.Join c.args.name.now ≡ command.Join name = is in cc in
+    let own : c.in_ok-own.own ≡ name = c.in_ok-own.ensures ∙ same in
+    let last = life_last c.args.lives.now.items _ name ((bytes_eq-Decides c.in_ok-own.own name).1 own) in
+    subst (λ (ls : List (Life g.row.L.Denot g.row.B.Denot g.row.P.Denot g.row.F.Denot)). has_life ls name ≡ true) (sym pushed) last
+
+pub returns-in-Err-clause-life : goal.returns-in-Err-clause-life
+returns-in-Err-clause-life g c = λ name f is done. let clash : outcome.Refused c.in-Err.fault ≡ outcome.Done (answer.Federate f) = done in absurd (cc)
+
+pub returns-in-Err-clause-lives : goal.returns-in-Err-clause-lives
+returns-in-Err-clause-lives g c = λ name has. has

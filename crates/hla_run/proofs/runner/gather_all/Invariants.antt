@@ -1,5 +1,5 @@
 use Rattle.std.proofs.Common.{◌≡◌, length}
-use Rattle.hla_run.specs.Recorded.{GathersRecorded}
+use Rattle.hla_run.specs.Recorded.{GathersCalls, GathersRecorded}
 use Rattle.hla_run.proofs.runner.gather_all.Given as goal
 
 -- of the lives so far
@@ -7,4 +7,5 @@ abbrev pub invariant-loop-life : goal.invariant-loop-life
 invariant-loop-life g l = record {
   each : length l.outcomes ≡ length l.fn.outcomes;
   recorded : GathersRecorded l.yielded l.lefts.items l.fn.outcomes l.outcomes;
+  calls : GathersCalls l.yielded l.fn.outcomes l.outcomes;
 }

@@ -1,9 +1,11 @@
-use Rattle.std.proofs.Common.{◌<◌, List, Option, length, get_or, sym, subst, arith}
+use Rattle.std.proofs.Common.{◌≡◌, ◌<◌, ℕ, List, Bool, Option, None, length, get_or, replicate, sym, subst, ◌∙◌, ap, arith}
+use Rattle.std.specs.Prelude.{slice_index_or}
 use Rattle.std.specs.List.{All}
 use Rattle.hla_machine.specs.declared.step.Outcome.{Outcome}
-use Rattle.hla_run.specs.Recorded.{AreJoined, AreOutcomesRecorded, HasJoined, IsFresh, IsLifeOf, IsLifeRecorded, IsTranscriptIn}
+use Rattle.hla_run.specs.Recorded.{AreJoined, AreNotTold, AreOutcomesRecorded, HasEachLife, HasJoined, IsFresh, IsLifeOf, IsLifeRecorded, IsTranscriptIn, KeepsJoinings, is_stranger}
 use Rattle.hla_run.specs.declared.life.Life.{Life}
-use Rattle.hla_run.proofs.RecordLemmas.{blank_recorded, fresh_recorded, grown_within, joined_in, joined_same}
+use Rattle.hla_run.proofs.RecordLemmas.{blank_recorded, fresh_recorded, grown_within, joined_in, joined_same, none_at}
+use Rattle.hla_run.proofs.StrangerLemmas.{each_life_kept, joinings_twice, stranger_told}
 use Rattle.hla_run.proofs.runner.run_lines.Goals as goal
 
 pub returns-then-are_of_all-clause-recorded : goal.returns-then-are_of_all-clause-recorded
@@ -12,9 +14,12 @@ returns-then-are_of_all-clause-recorded g c = λ history lefts own.
     let lines = c.args.lines.now in
     let execution = c.in_ok-execution.execution in
     let lives = c.in_ok-lives.lives.items in
-    let blank = subst (λ (os : List (Option Outcome)). AreOutcomesRecorded catalogue lines history os) (sym c.requires.blank) (blank_recorded catalogue lines history (length lines)) in
+    let seen = c.as_slice.result.now in
+    let stranger : List ℕ → Bool = is_stranger seen in
+    let blank = subst (λ (os : List (Option Outcome)). AreOutcomesRecorded catalogue lines history stranger os) (sym c.requires.blank) (blank_recorded catalogue lines history stranger (length lines)) in
+    let untold : AreNotTold c.args.outcomes.now = λ place. ap (λ (os : List (Option Outcome)). slice_index_or os place None) c.requires.blank ∙ none_at (length lines) place in
     let before : IsTranscriptIn history c.«open».new.rti.own.transcript = λ r there. own r (grown_within c.«open».new.rti.own c.destroy.new.rti.own c.destroy.ensures.own r there) in
-    let opened = c.in_ok-lives.ensures.recorded catalogue history before blank in
+    let opened = c.in_ok-lives.ensures.recorded catalogue history stranger before blank in
     let refused = c.refuse_strangers.ensures.recorded catalogue history opened in
     let joined : AreJoined history execution lives = joined_in history c.«open».new.rti.own.transcript execution lives before c.in_ok-lives.ensures.joined in
     let lived : All (IsLifeRecorded catalogue lines execution) c.in-Ok.lives.items = λ k d below.
@@ -29,5 +34,11 @@ returns-then-are_of_all-clause-recorded g c = λ history lefts own.
     let first = subst (λ (life : Life g.row.L.Denot g.row.B.Denot g.row.P.Denot g.row.F.Denot). HasJoined history execution life.name life.number) (job.job_is job.job) (joined k job.job within) in
     let same : IsLifeOf job.job (get_or c.in-Ok.lives.items k d) = job.call.met.0 in
     joined_same history execution job.job (get_or c.in-Ok.lives.items k d) same first in
-    let told = c.in_ok-lefts.ensures.recorded catalogue lines execution history lived named lefts refused in
-    c.destroy.ensures.recorded catalogue history own told
+    let told = c.in_ok-lefts.ensures.recorded catalogue lines execution history stranger lived named lefts refused in
+    let calls : KeepsJoinings lines c.refuse_strangers.new.outcomes c.gather_all.new.outcomes = c.in_ok-lefts.ensures.calls catalogue lines execution lived in
+    let first = joinings_twice lines c.«open».new.outcomes c.refuse_strangers.new.outcomes c.gather_all.new.outcomes c.refuse_strangers.ensures.joinings calls in
+    let all = joinings_twice lines c.«open».new.outcomes c.gather_all.new.outcomes c.destroy.new.outcomes first c.destroy.ensures.joinings in
+    let first_lives : HasEachLife lines seen c.«open».new.outcomes =
+    subst (λ (ls : List (Life g.row.L.Denot g.row.B.Denot g.row.P.Denot g.row.F.Denot)). HasEachLife lines ls c.«open».new.outcomes) (sym c.as_slice.ensures.value) (c.in_ok-lives.ensures.lives untold) in
+    let each : HasEachLife lines seen c.destroy.new.outcomes = each_life_kept lines seen c.«open».new.outcomes c.destroy.new.outcomes all first_lives in
+    record { stranger = stranger; recorded = c.destroy.ensures.recorded catalogue history stranger own told; strangers = stranger_told lines seen c.destroy.new.outcomes each }
