@@ -1,4 +1,4 @@
-use Rattle.std.proofs.Common.{◌≡◌, ◌<◌, ℕ, List, Bool, Option, None, length, get_or, replicate, sym, subst, ◌∙◌, ap, arith}
+use Rattle.std.proofs.Common.{◌<◌, ℕ, List, Bool, Option, None, length, get_or, sym, subst, ◌∙◌, ap, arith}
 use Rattle.std.specs.Prelude.{slice_index_or}
 use Rattle.std.specs.List.{All}
 use Rattle.hla_machine.specs.declared.step.Outcome.{Outcome}
