@@ -3,6 +3,7 @@ use Rattle.std.proofs.Common.{◌≡◌, ℕ, suc, List, [], ◌∷◌, ◌++◌
 use Rattle.std.specs.Prelude.{slice_get, slice_index_or, not, ◌||◌}
 use Rattle.std.specs.List.{All}
 use Rattle.std.specs.Str.{bytes_eq}
+use Rattle.std.proofs.lemmas.Bool.{or_left, or_right}
 use Rattle.std.proofs.lemmas.List.Elements.{All-contains, Contains-append_left, Contains-push, Contains-get_or}
 use Rattle.std.proofs.lemmas.List.Folds.{list_any-append}
 use Rattle.hla_catalogue.specs.CatalogueValue.{CatalogueValue}
@@ -54,16 +55,6 @@ all_own c lines records execution f own (t ∷ ts) outcomes tellings =
     joinings_twice lines outcomes (with_line_noted outcomes t) (with_lines_noted (with_line_noted outcomes t) ts) first
     (all_own c lines records execution f own ts (with_line_noted outcomes t) (λ k d below. tellings (suc k) d (omega (arith, below))))
 
--- ---- either of two
-or_left : (a b : Bool) → a ≡ true → (a || b) ≡ true
-or_left true b holds = refl
-or_left false b holds = let clash : false ≡ true = holds in cc
-
-or_last : (a b : Bool) → b ≡ true → (a || (b || false)) ≡ true
-or_last true b holds = refl
-or_last false true holds = refl
-or_last false false holds = let clash : false ≡ true = holds in cc
-
 module _ {L B P F : Type 0} where
   pub calls_more : (lives : List (Life L B P F)) (life : Life L B P F) (old mid new : List (Option Outcome)) → GathersCalls lives old mid → new ≡ with_lines_noted mid life.told.items → GathersCalls (lives ++ life ∷ []) old new
   calls_more lives life old mid new before noted = λ c lines execution recorded.
@@ -84,7 +75,7 @@ module _ {L B P F : Type 0} where
   lives_more lives life = λ name has. life_or lives life name ∙ or_left (has_life lives name) (bytes_eq life.name name || false) has
 
   pub life_last : (lives : List (Life L B P F)) (life : Life L B P F) (name : List ℕ) → bytes_eq life.name name ≡ true → has_life (lives ++ life ∷ []) name ≡ true
-  life_last lives life name same = life_or lives life name ∙ or_last (has_life lives name) (bytes_eq life.name name) same
+  life_last lives life name same = life_or lives life name ∙ or_right (has_life lives name) (bytes_eq life.name name || false) (or_left (bytes_eq life.name name) false same)
 
   -- ---- who is told to have joined
   pub untold_lives : (lines : List Line) (lives : List (Life L B P F)) (outcomes : List (Option Outcome)) → AreNotTold outcomes → HasEachLife lines lives outcomes
