@@ -20,7 +20,6 @@ use std::sync::ledger::{Ledger, Share};
 
 /// The records of a whole history, in order. They replay: from no executions the outcome and the choice of each are those
 /// of the definitions' next-state function; so they are a run of the central machine. Contracts see the records.
-#[derive(Drop)]
 pub struct Closed {
     records: Vec<Record>,
 }
@@ -35,6 +34,13 @@ impl Model for Closed {
     ghost view = { λ c. c.records.items };
 
     ghost invariant = { λ c. Replays c.records.items };
+}
+
+/// By name and not derived, so that it is proved here alone how records are let go, and not by each crate that owns a history.
+impl Drop for Closed {
+    fn drop(self) {
+        let Closed { records: _ } = self;
+    }
 }
 
 impl Closed {

@@ -52,7 +52,6 @@ impl<L: Ledger> Model for Seat<L> {
 
 /// What a caller leaves behind for `close`: its place, and the ambassador of a federate that resigned. Contracts see the
 /// caller with its transcript, and what the ambassador has heard.
-#[derive(Drop)]
 pub struct Left<L: Ledger, B: FederateAmbassador> {
     pub(crate) seat: Seat<L>,
     pub(crate) ambassador: Option<B>,
@@ -66,6 +65,16 @@ impl<L: Ledger, B: FederateAmbassador> Model for Left<L, B> {
 
     ghost view = { λ l.
         record { caller = l.seat; heard = option_map (λ b. B.heard b) l.ambassador } };
+}
+
+/// By name and not derived, so that it is proved here alone how what a caller leaves is let go, and not by each crate that owns such.
+impl<L: Ledger, B: FederateAmbassador> Drop for Left<L, B> {
+    fn drop(self) {
+        let Left {
+            seat: _,
+            ambassador: _,
+        } = self;
+    }
 }
 
 impl<L: Ledger, B: FederateAmbassador> Left<L, B> {
@@ -122,7 +131,11 @@ impl<L: Ledger, B: FederateAmbassador> Left<L, B> {
         ensures amount { result.amount ≡ self.caller.share }
         ensures acts { result.amount ≡ length self.caller.transcript }
     {
-        self.seat.into_share()
+        let Left {
+            seat,
+            ambassador: _,
+        } = self;
+        seat.into_share()
     }
 }
 

@@ -20,7 +20,6 @@ use std::sync::{Arc, Mutex, Wait};
 
 /// A caller that moves what is on the wires between federates (this profile). It may be moved to a thread of its own.
 /// Contracts see the caller with its transcript.
-#[derive(Drop)]
 pub struct Courier<L: Ledger + Naming, B: FederateAmbassador, W: Publisher<L>, F: Execution> {
     pub(crate) seat: Seat<L>,
     pub(crate) shared: Arc<Mutex<Locked<L, B, W, F>>, Global>,
@@ -33,6 +32,13 @@ impl<L: Ledger + Naming, B: FederateAmbassador, W: Publisher<L>, F: Execution> M
     ghost Value = { Caller };
 
     ghost view = { λ c. c.seat };
+}
+
+impl<L: Ledger + Naming, B: FederateAmbassador, W: Publisher<L>, F: Execution> Drop
+    for Courier<L, B, W, F> {
+    fn drop(self) {
+        let Courier { seat: _, shared: _ } = self;
+    }
 }
 
 impl<L: Ledger + Naming, B: FederateAmbassador, W: Publisher<L>, F: Execution> Courier<L, B, W, F> {
@@ -79,6 +85,7 @@ impl<L: Ledger + Naming, B: FederateAmbassador, W: Publisher<L>, F: Execution> C
     pub fn leave(self) -> Left<L, B>
         ensures { result ≡ record { caller = self; heard = None } }
     {
-        Left::new(self.seat, None)
+        let Courier { seat, shared: _ } = self;
+        Left::new(seat, None)
     }
 }

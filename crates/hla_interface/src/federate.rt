@@ -25,7 +25,6 @@ use std::sync::{Arc, Mutex, Wait};
 
 /// A federate that has joined an execution: its calls are the services of HLA 1.3. It may be moved to a thread of its own.
 /// Contracts see the execution, the number of the federate in it, and the caller with its transcript.
-#[derive(Drop)]
 pub struct Federate<L: Ledger + Naming, B: FederateAmbassador, W: Publisher<L>, F: Execution> {
     pub(crate) seat: Seat<L>,
     pub(crate) shared: Arc<Mutex<Locked<L, B, W, F>>, Global>,
@@ -41,6 +40,18 @@ impl<L: Ledger + Naming, B: FederateAmbassador, W: Publisher<L>, F: Execution> M
 
     ghost view = { λ f.
         record { execution = f.execution; federate = f.federate; caller = f.seat } };
+}
+
+impl<L: Ledger + Naming, B: FederateAmbassador, W: Publisher<L>, F: Execution> Drop
+    for Federate<L, B, W, F> {
+    fn drop(self) {
+        let Federate {
+            seat: _,
+            shared: _,
+            execution: _,
+            federate: _,
+        } = self;
+    }
 }
 
 impl<L: Ledger + Naming, B: FederateAmbassador, W: Publisher<L>, F: Execution> Federate<
@@ -168,7 +179,15 @@ impl<L: Ledger + Naming, B: FederateAmbassador, W: Publisher<L>, F: Execution> F
             .seat
             .resign(rt, &self.shared, self.execution, self.federate, action)
         {
-            Ok(inner) => Ok(Left::new(self.seat, Some(inner))),
+            Ok(inner) => {
+                let Federate {
+                    seat,
+                    shared: _,
+                    execution: _,
+                    federate: _,
+                } = self;
+                Ok(Left::new(seat, Some(inner)))
+            }
             Err(fault) => Err((fault, self)),
         }
     }
@@ -184,6 +203,12 @@ impl<L: Ledger + Naming, B: FederateAmbassador, W: Publisher<L>, F: Execution> F
     pub fn leave(self) -> Left<L, B>
         ensures { result ≡ record { caller = self.caller; heard = None } }
     {
-        Left::new(self.seat, None)
+        let Federate {
+            seat,
+            shared: _,
+            execution: _,
+            federate: _,
+        } = self;
+        Left::new(seat, None)
     }
 }

@@ -1,20 +1,22 @@
 //! The run-time infrastructure.
 
-ghost use Rattle.std.specs.Prelude.{◌≡◌, ◌+◌, ◌<◌, ◌≤◌, ◌⊎◌, [], true, IfOk, IfErr, OnOk, MatchResult};
+ghost use Rattle.std.specs.Prelude.{◌≡◌, ◌≢◌, ◌+◌, ◌<◌, ◌≤◌, ◌⊎◌, [], true, IfOk, IfErr, OnOk, MatchResult};
 ghost use Rattle.hla_base.specs.Limits.{ledger_parts, max_callers, max_couriers, max_history_limit};
 ghost use Rattle.hla_machine.specs.declared.step.Act.TheVariants as act;
 ghost use Rattle.hla_machine.specs.declared.step.Answer.TheVariants as answer;
 ghost use Rattle.hla_machine.specs.declared.step.Outcome.TheVariants as outcome;
 ghost use Rattle.hla_machine.specs.declared.step.Step.TheVariants as step;
 ghost use Rattle.hla_history.specs.Creating.{catalogue_from};
+ghost use Rattle.hla_callers.specs.Close.{AllHere, AllAgree, AreOfCallers};
 ghost use Rattle.hla_callers.specs.Callers.{Caller, new_caller, HasActed, HasNotActed, HasAnswered, said, nothing};
 
 use crate::answers::done_in;
+use crate::closing::NotClosed;
 use crate::courier::Courier;
 use crate::federate::Federate;
 use hla_base::{ExecutionName, Fault, List, MAX_CALLERS, MAX_COURIERS, MAX_HISTORY_LIMIT};
 use hla_callbacks::FederateAmbassador;
-use hla_callers::{Locked, Seat};
+use hla_callers::{CloseFault, Closed, Left, Locked, Seat, Unsettled, all_here};
 use hla_execution::Execution;
 use hla_history::Shared;
 use hla_monitor::{Board, Monitor, Naming, Opened, Published, Publisher, Told, open_board};
@@ -25,7 +27,6 @@ use std::sync::{Arc, Mutex, Wait};
 
 /// The run-time infrastructure: executions, their federates' ambassadors and one history behind one lock, and a caller of its
 /// own, which creates and destroys executions. Contracts see how many callers it has handed out, and that caller.
-#[derive(Drop)]
 pub struct Rti<L: Ledger + Naming, B: FederateAmbassador, W: Publisher<L>, F: Execution> {
     pub(crate) seat: Seat<L>,
     /// The parts of the ledger for callers to come.
@@ -48,6 +49,22 @@ impl<L: Ledger + Naming, B: FederateAmbassador, W: Publisher<L>, F: Execution> M
 
     ghost invariant = { λ r. (r.rest.parts + r.handed ≡ max_callers) × (r.rest.amount ≡ 0)
         × (r.seat.number ≡ 0) };
+}
+
+/// By name and not derived, so that it is proved here alone how all that lies behind the lock is let go, and not by each crate that
+/// owns an infrastructure; so are a federate and a courier.
+impl<L: Ledger + Naming, B: FederateAmbassador, W: Publisher<L>, F: Execution> Drop
+    for Rti<L, B, W, F> {
+    fn drop(self) {
+        let Rti {
+            seat: _,
+            rest: _,
+            handed: _,
+            couriers: _,
+            shared: _,
+            alloc: _,
+        } = self;
+    }
 }
 
 impl<L: Ledger + Naming, B: FederateAmbassador, W: Publisher<L>, F: Execution> Rti<L, B, W, F> {
@@ -219,6 +236,65 @@ impl<L: Ledger + Naming, B: FederateAmbassador, W: Publisher<L>, F: Execution> R
                 })
             }
             Err(refused) => Err(refused),
+        }
+    }
+
+    /// Takes all callers back, and answers the records of the whole history, where each transcript is just the records of its
+    /// caller, in order. Else `Missing` where a caller that was handed out is not in the list, and then `Transcript` with the
+    /// place of the first that differs; then the infrastructure and the list come back, and nothing has changed. Each record is of
+    /// one of the callers, or of the infrastructure itself.
+    pub fn close(
+        self,
+        rt: &impl Wait,
+        lefts: Vec<Left<L, B>>,
+    ) -> Result<Closed, NotClosed<L, B, W, F>>
+        requires { L.parts ≡ ledger_parts }
+        ensures agree { IfOk result (λ c. AllAgree c lefts.items self.own) }
+        ensures theirs { IfOk result (AreOfCallers self.handed) }
+        ensures here { OnOk result (AllHere self.handed lefts.items) }
+        ensures missing { IfErr result
+            (λ n. n.fault ≡ CloseFault.Missing → AllHere self.handed lefts.items → ⊥) }
+        ensures present { IfErr result
+            (λ n. n.fault ≢ CloseFault.Missing → AllHere self.handed lefts.items) }
+        ensures back { IfErr result (λ n. (n.rti ≡ self) × (n.lefts ≡ lefts)) }
+    {
+        if !all_here(self.handed, lefts.as_slice()) {
+            return Err(NotClosed {
+                rti: self,
+                lefts,
+                fault: CloseFault::Missing,
+            });
+        }
+        let Rti {
+            seat,
+            rest,
+            handed,
+            couriers,
+            shared,
+            alloc,
+        } = self;
+        let settled = shared.lock(rt).settle(seat, rest, lefts, handed);
+        match settled {
+            Ok(closed) => Ok(closed),
+            Err(
+                Unsettled {
+                    place,
+                    seat,
+                    rest,
+                    lefts,
+                },
+            ) => Err(NotClosed {
+                rti: Rti {
+                    seat,
+                    rest,
+                    handed,
+                    couriers,
+                    shared,
+                    alloc,
+                },
+                lefts,
+                fault: CloseFault::Transcript(place),
+            }),
         }
     }
 }
