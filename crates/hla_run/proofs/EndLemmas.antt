@@ -1,13 +1,21 @@
--- How a run ends behind the reading of its texts.
-use Rattle.std.proofs.Common.{◌≡◌, ℕ, List, length, Option, Ok}
+-- How a run ends behind the reading of its texts, and whose transcripts are the history's.
+use Rattle.std.proofs.Common.{◌≡◌, ℕ, List, length, get_or, filter, Bool, Option, Ok, subst}
+use Rattle.std.specs.Prelude.{◌==◌}
+use Rattle.std.specs.List.{Contains}
+use Rattle.std.proofs.lemmas.List.Elements.{All-contains, All-contains_itself, All-filter}
+use Rattle.std.proofs.lemmas.Option.{slice_get-get_or}
 use Rattle.hla_catalogue.specs.CatalogueValue.{CatalogueValue}
 use Rattle.hla_commands.specs.Script.{script_of}
 use Rattle.hla_commands.specs.declared.lines.Line.{Line}
 use Rattle.hla_fed_file.specs.Grammar.{Describes}
 use Rattle.hla_machine.specs.declared.step.Outcome.{Outcome}
+use Rattle.hla_machine.specs.declared.step.Record.{Record}
+use Rattle.hla_callers.specs.Callers.{Caller, Leaver}
+use Rattle.hla_callers.specs.Close.{Agrees, AllAgree}
 use Rattle.hla_outcomes.specs.Running.{AreAllDone, AreTold, IsRunFrom, StopsRun, StopsTelling, StopsText, told_text}
 use Rattle.hla_outcomes.specs.declared.fault.RunFault.{RunFault}
 use Rattle.hla_outcomes.specs.declared.fault.RunFault.TheVariants as stop
+use Rattle.hla_run.specs.Recorded.{AreDrawnFrom, AreTranscriptsIn, IsTranscriptIn}
 
 -- what was read, and how its lines are told
 pub run_told : (fed script : List ℕ) (c : CatalogueValue) (lines : List Line) (old new : Option (List ℕ)) → Describes fed c → script_of script ≡ Ok lines → AreTold c lines old new → IsRunFrom fed script old new
@@ -46,3 +54,18 @@ stops_told c lines outcomes old new stop.Write each done stops = record { outcom
 stops_told c lines outcomes old new stop.Memory each done stops = stops
 stops_told c lines outcomes old new (stop.Close e) each done stops = record { outcomes = outcomes; each = each; done = done; writes = stops }
 stops_told c lines outcomes old new stop.Monitor each done stops = record { outcomes = outcomes; each = each; done = done; writes = stops }
+
+-- ---- transcripts of the history
+filtered_in : (p : Record → Bool) (rs : List Record) (r : Record) → Contains (filter p rs) r → Contains rs r
+filtered_in p rs r there = All-contains (Contains rs) (filter p rs) r (All-filter p (Contains rs) rs (All-contains_itself rs)) there
+
+pub agreed_in : (history : List Record) (c : Caller) → Agrees history c → IsTranscriptIn history c.transcript
+agreed_in history c agrees = λ r there. filtered_in _ history r (subst (λ (rs : List Record). Contains rs r) agrees there)
+
+pub agreed_within : (history : List Record) (lefts : List Leaver) (own : Caller) → AllAgree history lefts own → AreTranscriptsIn history lefts
+agreed_within history lefts own agree = λ k d below. agreed_in history (get_or lefts k d).caller (agree.0 k (get_or lefts k d) below (slice_get-get_or lefts k d below))
+
+pub drawn_within : (history : List Record) (lefts : List Leaver) (own : Caller) → AllAgree history lefts own → AreDrawnFrom history lefts
+drawn_within history lefts own agree = λ k d below.
+    let c = (get_or lefts k d).caller in
+    (λ (r : Record). r.actor == c.number, agree.0 k (get_or lefts k d) below (slice_get-get_or lefts k d below))

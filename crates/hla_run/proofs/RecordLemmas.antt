@@ -1,11 +1,11 @@
 -- What is told of the lines of federates is what records answer.
-use Rattle.std.proofs.Common.{◌≡◌, ℕ, zero, suc, ◌<◌, List, [], ◌∷◌, ◌++◌, length, get_or, filter, replicate, Bool, true, Option, None, Some, Result, Ok, Err, ◌⊎◌, inl, inr, refl, sym, ap, subst, ◌∙◌, arith}
+use Rattle.std.proofs.Common.{◌≡◌, ℕ, zero, suc, ◌<◌, List, [], ◌∷◌, ◌++◌, length, get_or, replicate, Bool, true, Option, None, Some, Result, Ok, Err, ◌⊎◌, inl, inr, refl, sym, ap, subst, ◌∙◌, arith}
 use Rattle.std.specs.Prelude.{slice_get, slice_index_or, slice_set, IfOk, OnOk}
 use Rattle.std.specs.Io.KnownBytes.{Appends}
 use Rattle.std.specs.List.{All, Contains}
 use Rattle.std.proofs.lemmas.List.{append-nil, append_assoc}
-use Rattle.std.proofs.lemmas.List.Elements.{All-contains, All-contains_itself, All-filter, All-push, Contains-append_left, Contains-push, Contains-get_or}
-use Rattle.std.proofs.lemmas.Option.{slice_get-get_or, slice_get_read}
+use Rattle.std.proofs.lemmas.List.Elements.{All-contains, All-push, Contains-append_left, Contains-push, Contains-get_or}
+use Rattle.std.proofs.lemmas.Option.{slice_get_read}
 use Rattle.hla_base.specs.declared.fault.Fault.{Fault}
 use Rattle.hla_base.specs.declared.fault.Fault.TheVariants as fault
 use Rattle.hla_catalogue.specs.CatalogueValue.{CatalogueValue}
@@ -27,9 +27,9 @@ use Rattle.hla_machine.specs.declared.step.Record.{Record}
 use Rattle.hla_machine.specs.declared.step.Step.TheVariants as step
 use Rattle.hla_requests.specs.Requests.{service_of}
 use Rattle.hla_callers.specs.Callers.{Caller, FederateCaller, Leaver, HasActed, HasAnswered, HasNotActed, answer_given, nothing, said}
-use Rattle.hla_callers.specs.Close.{Agrees, AllAgree}
+use Rattle.hla_callers.specs.Close.{AllAgree}
 use Rattle.hla_players.specs.Deeds.{HasDone, HasTold, DoesDeed, IsDeedOf, IsGoneBy, caller_of}
-use Rattle.hla_run.specs.Recorded.{act_of_call, HasAnswerOf, HasJoined, IsOfficeRecorded, IsJoiningRecorded, IsActRecorded, IsCallRecorded, IsNamedCallRecorded, IsResignedBy, IsUnmade, IsLineRecorded, IsTellingRecorded, AreTellingsRecorded, IsOwnTelling, AreOwnTellings, AreOutcomesRecorded, HasExtended, IsTranscriptIn, AreTranscriptsIn, IsCallAt, IsFresh, AreFresh, AreJoined, IsLifeOf, IsLifeRecorded, IsPlayerAs, NeedsNoRecord, KeepsRecorded, KeepsOffice, IsOfficeLine, LeavesBehind, GathersRecorded, RecordsTold, IsToldRecorded, IsRunRecorded}
+use Rattle.hla_run.specs.Recorded.{act_of_call, AreAnsweredInTurn, IsDrawnFrom, HasAnswerOf, HasJoined, IsOfficeRecorded, IsJoiningRecorded, IsActRecorded, IsCallRecorded, IsNamedCallRecorded, IsResignedBy, IsUnmade, IsLineRecorded, IsTellingRecorded, AreTellingsRecorded, IsOwnTelling, AreOwnTellings, AreOutcomesRecorded, HasExtended, IsTranscriptIn, IsCallAt, IsFresh, AreFresh, AreJoined, IsLifeOf, IsLifeRecorded, IsPlayerAs, NeedsNoRecord, KeepsRecorded, KeepsOffice, IsOfficeLine, LeavesBehind, GathersRecorded, RecordsTold, IsToldRecorded, IsRunRecorded}
 use Rattle.hla_outcomes.specs.Running.{AreAllDone, told_text, with_line_noted, with_lines_noted}
 use Rattle.hla_outcomes.specs.declared.fault.RunFault.{RunFault}
 use Rattle.hla_run.specs.declared.life.Life.{Life}
@@ -40,15 +40,16 @@ use Rattle.hla_players.specs.declared.player.Player.{Player}
 use Rattle.hla_players.specs.declared.player.Player.TheVariants as player
 use Rattle.hla_players.specs.declared.watching.Ran.{Ran}
 use Rattle.hla_players.proofs.DeedLemmas.{answer_told}
+use Rattle.hla_run.proofs.EndLemmas.{agreed_in, agreed_within, drawn_within}
 
 -- ---- among more records
-answer_in : (history records : List Record) (execution : List ℕ) (a : Act) (given : Result Answer Fault) → IsTranscriptIn history records → HasAnswerOf records execution a given → HasAnswerOf history execution a given
+pub answer_in : (history records : List Record) (execution : List ℕ) (a : Act) (given : Result Answer Fault) → IsTranscriptIn history records → HasAnswerOf records execution a given → HasAnswerOf history execution a given
 answer_in history records execution a given within h = record { found = h.found; there = within h.found h.there; inside = h.inside; acts = h.acts; answers = h.answers }
 
 resigned_in : (history records : List Record) (execution : List ℕ) (f : ℕ) → IsTranscriptIn history records → IsResignedBy records execution f → IsResignedBy history execution f
 resigned_in history records execution f within h = (h.0, answer_in history records execution (act.Step (step.Call f (service.Resign h.0))) (Ok answer.Done) within h.1)
 
-unmade_in : (c : CatalogueValue) (history records : List Record) (execution : List ℕ) (f : ℕ) (call : Call) (out : Outcome) → IsTranscriptIn history records → IsUnmade c records execution f call out → IsUnmade c history execution f call out
+pub unmade_in : (c : CatalogueValue) (history records : List Record) (execution : List ℕ) (f : ℕ) (call : Call) (out : Outcome) → IsTranscriptIn history records → IsUnmade c records execution f call out → IsUnmade c history execution f call out
 unmade_in c history records execution f call out within h = (
   h.0,
   h.1,
@@ -301,21 +302,28 @@ pub kept_same : (lines : List Line) (stranger : List ℕ → Bool) (old mid new 
 kept_same lines stranger old mid new before same = λ c history recorded. subst (λ (os : List (Option Outcome)). AreOutcomesRecorded c lines history stranger os) (sym same) (before c history recorded)
 
 -- ---- what is left behind
-pub left_behind : (old mid new : List Leaver) (first second : Leaver) (c : Caller) → mid ≡ old ++ first ∷ [] → new ≡ mid ++ second ∷ [] → first.caller ≡ c → LeavesBehind old c new
-left_behind old mid new first second c one two own = λ history all.
-    let within : Leaver → Type 0 = λ (l : Leaver). IsTranscriptIn history l.caller.transcript in
-    let both : AreTranscriptsIn history (mid ++ second ∷ []) = subst (λ (ls : List Leaver). AreTranscriptsIn history ls) two all in
-    let before : AreTranscriptsIn history mid = λ k d below. All-contains within (mid ++ second ∷ []) (get_or mid k d) both (Contains-append_left mid (second ∷ []) (get_or mid k d) (Contains-get_or mid k d below)) in
-    let some : AreTranscriptsIn history (old ++ first ∷ []) = subst (λ (ls : List Leaver). AreTranscriptsIn history ls) one before in (
-      λ k d below. All-contains within (old ++ first ∷ []) (get_or old k d) some (Contains-append_left old (first ∷ []) (get_or old k d) (Contains-get_or old k d below)),
-      subst (λ (x : Caller). IsTranscriptIn history x.transcript) own (All-contains within (old ++ first ∷ []) first some (Contains-push old first)),
+-- what holds of all callers that left something behind
+left_of : (old mid new : List Leaver) (first second : Leaver) (c : Caller) → mid ≡ old ++ first ∷ [] → new ≡ mid ++ second ∷ [] → first.caller ≡ c → (P : Caller → Type 0) → All (λ (l : Leaver). P l.caller) new → All (λ (l : Leaver). P l.caller) old × P c
+left_of old mid new first second c one two own P all =
+    let OfLeaver : Leaver → Type 0 = λ (l : Leaver). P l.caller in
+    let both : All OfLeaver (mid ++ second ∷ []) = subst (λ (ls : List Leaver). All OfLeaver ls) two all in
+    let before : All OfLeaver mid = λ k d below. All-contains OfLeaver (mid ++ second ∷ []) (get_or mid k d) both (Contains-append_left mid (second ∷ []) (get_or mid k d) (Contains-get_or mid k d below)) in
+    let some : All OfLeaver (old ++ first ∷ []) = subst (λ (ls : List Leaver). All OfLeaver ls) one before in (
+      λ k d below. All-contains OfLeaver (old ++ first ∷ []) (get_or old k d) some (Contains-append_left old (first ∷ []) (get_or old k d) (Contains-get_or old k d below)),
+      subst P own (All-contains OfLeaver (old ++ first ∷ []) first some (Contains-push old first)),
     )
+
+pub left_behind : (old mid new : List Leaver) (first second : Leaver) (c : Caller) → mid ≡ old ++ first ∷ [] → new ≡ mid ++ second ∷ [] → first.caller ≡ c → LeavesBehind old c new
+left_behind old mid new first second c one two own = λ history. (
+  left_of old mid new first second c one two own (λ (x : Caller). IsTranscriptIn history x.transcript),
+  left_of old mid new first second c one two own (λ (x : Caller). IsDrawnFrom history x.transcript),
+)
 
 module _ {L B P F : Type 0} where
   pub gathered_more : (lives : List (Life L B P F)) (life : Life L B P F) (some all : List Leaver) (old mid new : List (Option Outcome)) → GathersRecorded lives some old mid → new ≡ with_lines_noted mid life.told.items
       → LeavesBehind some (caller_of life.player) all → GathersRecorded (lives ++ life ∷ []) all old new
   gathered_more lives life some all old mid new before noted behind = λ c lines execution history stranger recorded joined lefts outcomes.
-      let left = behind history lefts in
+      let left = (behind history).0 lefts in
       let Recorded : Life L B P F → Type 0 = IsLifeRecorded c lines execution in
       let Joined : Life L B P F → Type 0 = λ (x : Life L B P F). HasJoined history execution x.name x.number in
       let others : All Recorded lives = λ k d below. All-contains Recorded (lives ++ life ∷ []) (get_or lives k d) recorded (Contains-append_left lives (life ∷ []) (get_or lives k d) (Contains-get_or lives k d below)) in
@@ -334,6 +342,7 @@ module _ {L B P F : Type 0} where
   fresh_recorded c lines execution life fresh = (
     fresh.0,
     subst (λ (told : List LineOutcome). AreOwnTellings c lines (caller_of life.player).transcript execution life.number life.name told) (sym fresh.1) (λ k d below. absurd (omega (arith, below))),
+    subst (λ (told : List LineOutcome). AreAnsweredInTurn c lines (caller_of life.player).transcript execution life.number life.name (caller_of life.player).transcript told) (sym fresh.1) tt,
   )
 
   -- ---- who has joined
@@ -353,23 +362,13 @@ module _ {L B P F : Type 0} where
   joined_same records execution old new same h =
       subst (λ (n : ℕ). HasJoined records execution new.name n) (sym same.1) (subst (λ (name : List ℕ). HasJoined records execution name old.number) (sym same.0) h)
 
--- ---- transcripts of the history
-filtered_in : (p : Record → Bool) (rs : List Record) (r : Record) → Contains (filter p rs) r → Contains rs r
-filtered_in p rs r there = All-contains (Contains rs) (filter p rs) r (All-filter p (Contains rs) rs (All-contains_itself rs)) there
-
-agreed_in : (history : List Record) (c : Caller) → Agrees history c → IsTranscriptIn history c.transcript
-agreed_in history c agrees = λ r there. filtered_in _ history r (subst (λ (rs : List Record). Contains rs r) agrees there)
-
-pub agreed_within : (history : List Record) (lefts : List Leaver) (own : Caller) → AllAgree history lefts own → AreTranscriptsIn history lefts
-agreed_within history lefts own agree = λ k d below. agreed_in history (get_or lefts k d).caller (agree.0 k (get_or lefts k d) below (slice_get-get_or lefts k d below))
-
 -- ---- the end of a run
 -- what was written of lines that all were done, where the transcripts of all agree with the history
 pub told_run : (result : Result Ran RunFault) (c : CatalogueValue) (lines : List Line) (outcomes : List (Option Outcome)) (lefts : List Leaver) (own : Caller) (old new : Option (List ℕ)) → length outcomes ≡ length lines → AreAllDone lines outcomes
     → RecordsTold c lines outcomes lefts own → OnOk result (Appends old new (told_text c lines outcomes)) → IfOk result (λ r. AllAgree r.closed lefts own)
     → IfOk result (λ r. IsToldRecorded r.closed c lines old new)
 told_run (Ok r) c lines outcomes lefts own old new each done recorded told agree =
-    (record { outcomes = outcomes; each = each; done = done; writes = told }, recorded r.closed (agreed_within r.closed lefts own agree) (agreed_in r.closed own agree.1))
+    (record { outcomes = outcomes; each = each; done = done; writes = told }, recorded r.closed (agreed_within r.closed lefts own agree) (drawn_within r.closed lefts own agree) (agreed_in r.closed own agree.1))
 told_run (Err e) c lines outcomes lefts own old new each done recorded told agree = tt
 
 pub run_recorded : (result : Result Ran RunFault) (fed script : List ℕ) (c : CatalogueValue) (lines : List Line) (old new : Option (List ℕ)) → Describes fed c → script_of script ≡ Ok lines → IfOk result (λ r. IsToldRecorded r.closed c lines old new)

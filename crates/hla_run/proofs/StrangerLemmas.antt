@@ -68,7 +68,7 @@ module _ {L B P F : Type 0} where
   calls_of some all old new same h = subst (λ (ls : List (Life L B P F)). GathersCalls ls old new) same h
 
   -- ---- lives
-  life_or : (lives : List (Life L B P F)) (life : Life L B P F) (name : List ℕ) → has_life (lives ++ life ∷ []) name ≡ (has_life lives name || (bytes_eq life.name name || false))
+  pub life_or : (lives : List (Life L B P F)) (life : Life L B P F) (name : List ℕ) → has_life (lives ++ life ∷ []) name ≡ (has_life lives name || (bytes_eq life.name name || false))
   life_or lives life name = list_any-append (λ (x : Life L B P F). bytes_eq x.name name) lives (life ∷ [])
 
   pub lives_more : (lives : List (Life L B P F)) (life : Life L B P F) → KeepsLives lives (lives ++ life ∷ [])

@@ -1,5 +1,5 @@
 -- What is told of the lines of federates, by the records of the history
-use Rattle.std.specs.Prelude.{◌≡◌, ◌⊎◌, ◌++◌, ℕ, List, [], Bool, true, not, Option, None, Some, Result, Ok, Err, slice_get, slice_index_or}
+use Rattle.std.specs.Prelude.{◌≡◌, ◌⊎◌, ◌++◌, ◌∷◌, ◌<◌, ℕ, List, [], length, filter, Bool, true, false, not, Option, None, Some, Result, Ok, Err, slice_get, slice_index_or}
 use Rattle.hla_base.specs.declared.fault.Fault.{Fault}
 use Rattle.hla_base.specs.declared.fault.Fault.TheVariants as fault
 use Rattle.std.specs.List.{All, Contains, list_any}
@@ -143,6 +143,69 @@ abbrev pub KeepsJoinings : List Line → List (Option Outcome) → List (Option 
 KeepsJoinings lines old new =
     (place : ℕ) (l : Line) (name : List ℕ) (o : Outcome) → slice_get lines place ≡ Some l → l.command ≡ command.Join name → slice_index_or new place None ≡ Some o → slice_index_or old place None ≡ Some o
 
+-- ---- each line by a record of its own, in the order of the lines
+-- this record is of what the call asks this federate for, and answers this
+pub record IsAnswerTo (c : CatalogueValue) (execution : List ℕ) (f : ℕ) (call : Call) (given : Result Answer Fault) (r : Record) : Type 0 where
+  pub asked : Option Service
+  pub asks : service_of c call ≡ Ok asked
+  pub inside : r.execution ≡ execution
+  pub acts : r.act ≡ act_of_call asked f
+  pub answers : answer_given r.outcome ≡ given
+
+-- one of these records answers the call, and those behind it are the rest
+pub record IsAnsweredAmong (c : CatalogueValue) (execution : List ℕ) (f : ℕ) (call : Call) (given : Result Answer Fault) (records rest : List Record) : Type 0 where
+  pub passed : List Record
+  pub found : Record
+  pub splits : records ≡ passed ++ found ∷ rest
+  pub answer : IsAnswerTo c execution f call given found
+
+-- what is told of lines of this name is answered by these records, each by another one, in the order of the lines; or the call was not made,
+-- by all records
+abbrev pub AreAnsweredInTurn : CatalogueValue → List Line → List Record → List ℕ → ℕ → List ℕ → List Record → List LineOutcome → Type 0
+AreAnsweredInTurn c lines all execution f name records [] = Unit {0}
+AreAnsweredInTurn c lines all execution f name records (t ∷ ts) =
+    (call : Call) × IsCallAt lines t.place name call
+    × (((rest : List Record) × IsAnsweredAmong c execution f call (answer_given t.outcome) records rest × AreAnsweredInTurn c lines all execution f name rest ts)
+    ⊎ (IsUnmade c all execution f call t.outcome × AreAnsweredInTurn c lines all execution f name records ts))
+
+-- the caller has added records to its transcript, one of which answers the act; or it has none
+abbrev pub AddsAct : List ℕ → Act → Outcome → Caller → Caller → Type 0
+AddsAct execution a out old new = (more : List Record) × (new.transcript ≡ old.transcript ++ more) × IsActRecorded more execution a out
+
+-- the caller has added records to its transcript, one of which answers the call; or it was not made
+abbrev pub AddsCall : CatalogueValue → List ℕ → ℕ → Call → Outcome → Caller → Caller → Type 0
+AddsCall c execution f call out old new =
+    (more : List Record) × (new.transcript ≡ old.transcript ++ more) × (HasCallOf c more execution f call (answer_given out) ⊎ IsUnmade c new.transcript execution f call out)
+
+-- the places of what is told rise
+abbrev pub AreRising : List LineOutcome → Type 0
+AreRising [] = Unit {0}
+AreRising (t ∷ ts) = All (λ (u : LineOutcome). t.place < u.place) ts × AreRising ts
+
+-- all that is told is of lines before a place
+abbrev pub AreBelow : ℕ → List LineOutcome → Type 0
+AreBelow k told = All (λ (t : LineOutcome). t.place < k) told
+
+-- each line of this name before a place is told of
+abbrev pub AreToldBelow : List Line → List ℕ → ℕ → List LineOutcome → Type 0
+AreToldBelow lines name k told =
+    (place : ℕ) (l : Line) (call : Call) → place < k → slice_get lines place ≡ Some l → l.command ≡ command.Federate name call → (t : LineOutcome) × Contains told t × (t.place ≡ place)
+
+-- what is told of the lines of this name is answered in turn, by records of a federate that has joined under it
+pub record IsNameInTurn (c : CatalogueValue) (lines : List Line) (history : List Record) (outcomes : List (Option Outcome)) (name : List ℕ) : Type 0 where
+  pub execution : List ℕ
+  pub federate : ℕ
+  pub told : List LineOutcome
+  pub joined : HasJoined history execution name federate
+  pub rising : AreRising told
+  pub tells : (place : ℕ) (l : Line) (call : Call) (o : Outcome) → slice_get lines place ≡ Some l → l.command ≡ command.Federate name call → slice_index_or outcomes place None ≡ Some o → Contains told (record { place = place; outcome = o })
+  pub in_turn : AreAnsweredInTurn c lines history execution federate name history told
+
+-- of lines of federates the same is told as before, or nothing was told of them and nothing is
+abbrev pub KeepsCalls : List Line → List (Option Outcome) → List (Option Outcome) → Type 0
+KeepsCalls lines old new =
+    (place : ℕ) (l : Line) (name : List ℕ) (call : Call) (o : Outcome) → slice_get lines place ≡ Some l → l.command ≡ command.Federate name call → slice_index_or new place None ≡ Some o → slice_index_or old place None ≡ Some o
+
 -- ---- federates and what they leave behind
 -- what is told of a line is told of a call of the federate of this name, as these records of the federate answer
 abbrev pub IsOwnTelling : CatalogueValue → List Line → List Record → List ℕ → ℕ → List ℕ → LineOutcome → Type 0
@@ -160,6 +223,11 @@ IsPlayerAs execution f (player.Gone l) = IsResignedBy l.caller.transcript execut
 abbrev pub IsLifeRecorded : {L B P F : Type 0} → CatalogueValue → List Line → List ℕ → Life L B P F → Type 0
 IsLifeRecorded c lines execution life =
     IsPlayerAs execution life.number life.player × AreOwnTellings c lines (caller_of life.player).transcript execution life.number life.name life.told.items
+    × AreAnsweredInTurn c lines (caller_of life.player).transcript execution life.number life.name (caller_of life.player).transcript life.told.items
+
+-- a federate has told of each of its lines before a place, in their order, unless it lacks memory
+abbrev pub IsToldTo : {L B P F : Type 0} → List Line → ℕ → Life L B P F → Type 0
+IsToldTo lines k life = AreRising life.told.items × AreBelow k life.told.items × ((life.lacks_memory ≡ true) ⊎ AreToldBelow lines life.name k life.told.items)
 
 -- it is the life of the same federate
 abbrev pub IsLifeOf : {L B P F : Type 0} → Life L B P F → Life L B P F → Type 0
@@ -211,9 +279,17 @@ IsTranscriptIn history transcript = (r : Record) → Contains transcript r → C
 abbrev pub AreTranscriptsIn : List Record → List Leaver → Type 0
 AreTranscriptsIn history lefts = All (λ (l : Leaver). IsTranscriptIn history l.caller.transcript) lefts
 
+-- these records are some of the history, in its order
+abbrev pub IsDrawnFrom : List Record → List Record → Type 0
+IsDrawnFrom history records = (chosen : Record → Bool) × (records ≡ filter chosen history)
+
+abbrev pub AreDrawnFrom : List Record → List Leaver → Type 0
+AreDrawnFrom history lefts = All (λ (l : Leaver). IsDrawnFrom history l.caller.transcript) lefts
+
 -- a caller's transcript is left behind with the others
 abbrev pub LeavesBehind : List Leaver → Caller → List Leaver → Type 0
-LeavesBehind old c new = (history : List Record) → AreTranscriptsIn history new → AreTranscriptsIn history old × IsTranscriptIn history c.transcript
+LeavesBehind old c new =
+    (history : List Record) → (AreTranscriptsIn history new → AreTranscriptsIn history old × IsTranscriptIn history c.transcript) × (AreDrawnFrom history new → AreDrawnFrom history old × IsDrawnFrom history c.transcript)
 
 -- what is told of a line needs no record
 abbrev pub NeedsNoRecord : (List ℕ → Bool) → Command → Outcome → Type 0
@@ -242,16 +318,24 @@ GathersRecorded lives lefts old new =
 abbrev pub GathersCalls : {L B P F : Type 0} → List (Life L B P F) → List (Option Outcome) → List (Option Outcome) → Type 0
 GathersCalls lives old new = (c : CatalogueValue) (lines : List Line) (execution : List ℕ) → All (IsLifeRecorded c lines execution) lives → KeepsJoinings lines old new
 
+-- what lives told of their lines is answered in turn, by what they left behind
+abbrev pub GathersInTurn : {L B P F : Type 0} → List (Life L B P F) → List Leaver → List (Option Outcome) → Type 0
+GathersInTurn lives lefts new =
+    (c : CatalogueValue) (lines : List Line) (execution : List ℕ) (history : List Record) → All (IsLifeRecorded c lines execution) lives → All (IsToldTo lines (length lines)) lives → AreJoined history execution lives → AreTranscriptsIn history lefts
+    → AreDrawnFrom history lefts → (name : List ℕ) → has_life lives name ≡ true → IsNameInTurn c lines history new name
+
 -- ---- a run
--- what is told of all lines is recorded, and where a name is taken for a stranger's, of no line is it told that one has joined under it
+-- what is told of all lines is recorded, and where a name is taken for a stranger's, of no line is it told that one has joined under it; of each other
+-- name what is told of its lines is answered in turn
 pub record AreAllRecorded (c : CatalogueValue) (lines : List Line) (history : List Record) (outcomes : List (Option Outcome)) : Type 0 where
   pub stranger : List ℕ → Bool
   pub recorded : AreOutcomesRecorded c lines history stranger outcomes
   pub strangers : (name : List ℕ) → stranger name ≡ true → IsStranger lines outcomes name
+  pub in_turn : (name : List ℕ) → stranger name ≡ false → IsNameInTurn c lines history outcomes name
 
 -- where the history has what all have left behind, and what the infrastructure did itself, it records what is told of the lines
 abbrev pub RecordsTold : CatalogueValue → List Line → List (Option Outcome) → List Leaver → Caller → Type 0
-RecordsTold c lines outcomes lefts own = (history : List Record) → AreTranscriptsIn history lefts → IsTranscriptIn history own.transcript → AreAllRecorded c lines history outcomes
+RecordsTold c lines outcomes lefts own = (history : List Record) → AreTranscriptsIn history lefts → AreDrawnFrom history lefts → IsTranscriptIn history own.transcript → AreAllRecorded c lines history outcomes
 
 -- what was written is told of lines as the history records it
 abbrev pub IsToldRecorded : List Record → CatalogueValue → List Line → Option (List ℕ) → Option (List ℕ) → Type 0

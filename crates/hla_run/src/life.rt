@@ -1,10 +1,12 @@
 //! A federate's life on its thread.
 
-ghost use Rattle.std.specs.Prelude.{◌≡◌, ℕ, List};
+ghost use Rattle.std.specs.Prelude.{◌≡◌, ◌↔◌, ◌+◌, ℕ, List, None, IsTrue, length};
 ghost use Rattle.hla_machine.specs.declared.step.Act.TheVariants as act;
+ghost use Rattle.hla_machine.specs.declared.step.Answer.TheVariants as answer;
+ghost use Rattle.hla_machine.specs.declared.step.Outcome.TheVariants as outcome;
 ghost use Rattle.hla_machine.specs.declared.step.Step.TheVariants as step;
 ghost use Rattle.hla_players.specs.Deeds.{caller_of};
-ghost use Rattle.hla_run.specs.Recorded.{HasExtended, IsActRecorded, IsCallAt, IsCallRecorded, IsLifeOf, IsLifeRecorded, IsPlayerAs};
+ghost use Rattle.hla_run.specs.Recorded.{AddsAct, AddsCall, HasExtended, IsActRecorded, IsCallAt, IsCallRecorded, IsLifeOf, IsLifeRecorded, IsPlayerAs, IsToldTo};
 
 use hla_base::{ExecutionName, Fault, FederateNo, List};
 use hla_callbacks::FederateAmbassador;
@@ -121,6 +123,13 @@ fn after_nothing<L: Ledger + Naming, B: FederateAmbassador, P: Publisher<L>, F: 
     }
 }
 
+/// Whether a tick has given nothing.
+fn is_vain(ended: &Outcome) -> bool
+    ensures { IsTrue result ↔ (ended.now ≡ outcome.Done (answer.Ticked None)) }
+{
+    matches!(ended, Outcome::Done(Answer::Ticked(None)))
+}
+
 /// Ticks until a callback comes or a tick is refused, at most `MAX_TICKS` times, once a bout.
 fn tick_until_called<
     L: Ledger + Naming,
@@ -139,16 +148,18 @@ fn tick_until_called<
     ensures extended { HasExtended federate.old.caller federate.new.caller }
     ensures recorded { IsActRecorded federate.new.caller.transcript federate.old.execution
         (act.Step (step.Tick federate.old.federate)) result }
+    ensures added { AddsAct federate.old.execution (act.Step (step.Tick federate.old.federate))
+        result federate.old.caller federate.new.caller }
 {
     let mut wait = LineWait::new();
     for _tick in 0..MAX_TICKS {
         let seen = stage.room.bouts();
-        match outcome_of_tick(federate.tick(rt)) {
-            Outcome::Done(Answer::Ticked(None)) => {
-                after_nothing(rt, stage, courier, seen, &mut wait);
-            }
-            ended => return ended,
+        let ended = outcome_of_tick(federate.tick(rt));
+        if !is_vain(&ended) {
+            return ended;
         }
+        drop(ended);
+        after_nothing(rt, stage, courier, seen, &mut wait);
     }
     Outcome::Done(Answer::Ticked(None))
 }
@@ -167,6 +178,9 @@ fn do_call<L: Ledger + Naming, B: FederateAmbassador, P: Publisher<L>, F: Execut
     ensures recorded { (execution : List ℕ) (f : ℕ) → IsPlayerAs execution f player
         → IsCallRecorded stage.now.catalogue.now (caller_of result.player).transcript execution f
         call.now result.outcome }
+    ensures added { (execution : List ℕ) (f : ℕ) → IsPlayerAs execution f player
+        → AddsCall stage.now.catalogue.now execution f call.now result.outcome (caller_of player)
+        (caller_of result.player) }
 {
     let mut federate = match player {
         Player::Joined(federate) => federate,
@@ -205,6 +219,8 @@ impl<L: Ledger + Naming, B: FederateAmbassador, P: Publisher<L>, F: Execution> L
         ensures recorded { (execution : List ℕ)
             → IsLifeRecorded stage.now.catalogue.now stage.now.lines.now execution self
             → IsLifeRecorded stage.now.catalogue.now stage.now.lines.now execution result }
+        ensures told { IsToldTo stage.now.lines.now place self
+            → IsToldTo stage.now.lines.now (place + 1) result }
     {
         let Life {
             name,
@@ -241,6 +257,8 @@ pub fn live<L: Ledger + Naming, B: FederateAmbassador, P: Publisher<L>, F: Execu
     ensures recorded { (execution : List ℕ)
         → IsLifeRecorded stage.now.catalogue.now stage.now.lines.now execution life
         → IsLifeRecorded stage.now.catalogue.now stage.now.lines.now execution result }
+    ensures told { IsToldTo stage.now.lines.now 0 life
+        → IsToldTo stage.now.lines.now (length stage.now.lines.now) result }
 {
     for (place, line) in stage.lines.iter().enumerate() {
         if let Command::Federate { name, call } = &line.command {

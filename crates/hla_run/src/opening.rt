@@ -3,7 +3,7 @@
 ghost use Rattle.std.specs.Prelude.{◌≡◌, ◌<◌, ◌≤◌, drop, length, IfOk, IfSome, OnOk};
 ghost use Rattle.hla_outcomes.specs.Joining.{joins, joins_by};
 ghost use Rattle.hla_commands.specs.declared.lines.Command.TheVariants as command;
-ghost use Rattle.hla_run.specs.Recorded.{AreFresh, AreJoined, AreNotTold, HasEachLife, HasExtended, HasLifeOf, IsJoiningRecorded, IsOfficeLine, KeepsJoinings, KeepsLives, KeepsOffice, KeepsRecorded, has_life, is_stranger};
+ghost use Rattle.hla_run.specs.Recorded.{AreFresh, AreJoined, AreNotTold, HasEachLife, HasExtended, HasLifeOf, IsJoiningRecorded, IsOfficeLine, KeepsCalls, KeepsJoinings, KeepsLives, KeepsOffice, KeepsRecorded, has_life, is_stranger};
 
 use crate::life::Life;
 use hla_base::{ExecutionName, Fault, List};
@@ -162,6 +162,7 @@ pub fn destroy<L: Ledger + Naming, B: FederateAmbassador, P: Publisher<L>, F: Ex
     ensures own { HasExtended rti.old.own rti.new.own }
     ensures recorded { KeepsOffice lines.now rti.new.own outcomes.old outcomes.new }
     ensures joinings { KeepsJoinings lines.now outcomes.old outcomes.new }
+    ensures calls { KeepsCalls lines.now outcomes.old outcomes.new }
 {
     for (place, line) in lines.iter().enumerate() {
         if let Command::Destroy = &line.command {

@@ -3,12 +3,12 @@
 //! Here and in the modules beside it what is large goes to `drop` by name: such a call is proved once, and what goes out of
 //! scope is taken apart, variant by variant, in the proof of each function that lets it.
 
-ghost use Rattle.std.specs.Prelude.{◌≡◌, ◌||◌, ◌≤◌, ℕ, [], IfOk, OnOk, IfErr, length, vec_len, List, None, replicate};
+ghost use Rattle.std.specs.Prelude.{◌≡◌, ◌||◌, ◌≤◌, ℕ, [], false, IfOk, OnOk, IfErr, length, vec_len, List, None, replicate};
 ghost use Rattle.std.specs.List.{All};
 ghost use Rattle.hla_base.specs.Limits.{ledger_parts};
 ghost use Rattle.hla_players.specs.Deeds.{caller_of};
 ghost use Rattle.hla_outcomes.specs.Joining.{joins, script_joins};
-ghost use Rattle.hla_run.specs.Recorded.{GathersCalls, GathersRecorded, IsLifeOf, IsLifeRecorded, IsRunRecorded, IsToldRecorded, LeavesBehind, RecordsTold};
+ghost use Rattle.hla_run.specs.Recorded.{GathersCalls, GathersInTurn, GathersRecorded, IsLifeOf, IsLifeRecorded, IsRunRecorded, IsToldRecorded, IsToldTo, LeavesBehind, RecordsTold};
 ghost use Rattle.hla_outcomes.specs.Running.{AreAllDone, AreTold, IsRunFrom, IsSeen, StopsRun, StopsTelling, is_unwritten_run, with_lines_noted};
 
 use crate::life::{Life, Stage, live};
@@ -43,6 +43,7 @@ fn gather<L: Ledger + Naming, B: FederateAmbassador, P: Publisher<L>, F: Executi
     ensures told { outcomes.new ≡ with_lines_noted outcomes.old life.told.items }
     ensures left { OnOk result (LeavesBehind lefts.old.items (caller_of life.player)
         lefts.new.items) }
+    ensures whole { OnOk result (life.lacks_memory ≡ false) }
 {
     let Life {
         player,
@@ -71,6 +72,7 @@ fn gather_all<L: Ledger + Naming, B: FederateAmbassador, P: Publisher<L>, F: Exe
     ensures recorded { IfOk result (λ lefts. GathersRecorded lives.items lefts.items outcomes.old
         outcomes.new) }
     ensures calls { OnOk result (GathersCalls lives.items outcomes.old outcomes.new) }
+    ensures turns { IfOk result (λ lefts. GathersInTurn lives.items lefts.items outcomes.new) }
 {
     let mut lefts = Vec::new(alloc);
     for life in lives {
@@ -133,6 +135,8 @@ fn run_lines<
         ensures recorded { (execution : List ℕ)
             → IsLifeRecorded stage.entry.catalogue.now stage.entry.lines.now execution life
             → IsLifeRecorded stage.entry.catalogue.now stage.entry.lines.now execution result }
+        ensures told { IsToldTo stage.entry.lines.now 0 life
+            → IsToldTo stage.entry.lines.now (length stage.entry.lines.now) result }
     { live(rt, &stage, life) };
     let Ok(lives) = thread::map_vec(rt, lives, &lived) else {
         return Err(Fault::OutOfMemory);
@@ -262,7 +266,8 @@ pub fn run_scripts<
     // asks the federate for which has joined under its name, by another record of the same execution; of a line that creates,
     // destroys or joins, the record of that. Or it is refused without a record, for one of the reasons that `IsLineRecorded` names:
     // a federate's line as of one that is not joined only where it has resigned, by another record, or where no line that joins
-    // under its name is told to have joined one.
+    // under its name is told to have joined one. Of each federate's lines each is answered by another record, in the order of
+    // the lines.
     ensures recorded { IfOk result (λ r. IsRunRecorded r.closed fed.now script.now
         (W.contents out.old.inner) (W.contents out.new.inner)) }
 

@@ -1,7 +1,9 @@
-use Rattle.std.proofs.Common.{◌∙◌, None, inr, subst}
+use Rattle.std.proofs.Common.{◌∙◌, [], None, inr, subst, sym}
+use Rattle.std.proofs.lemmas.List.{append-nil}
 use Rattle.hla_players.specs.Deeds.{caller_of}
-use Rattle.hla_run.specs.Recorded.{HasExtended, IsPlayerAs}
+use Rattle.hla_run.specs.Recorded.{AddsCall, HasExtended, IsPlayerAs}
 use Rattle.hla_players.specs.declared.player.Player.{Player}
+use Rattle.hla_run.proofs.AnswerLemmas.{added_asked, added_call_of, added_deed}
 use Rattle.hla_run.proofs.RecordLemmas.{asked_recorded, call_of, deed_recorded, player_stays, unjoined}
 use Rattle.hla_run.proofs.life.do_call.Goals as goal
 
@@ -19,6 +21,17 @@ returns-in-Tick-clause-recorded g c = λ execution f before.
     let own = asked_recorded catalogue records m.execution m.federate c.args.call.now None c.tick_until_called-outcome.result c.in-Tick.ensures c.tick_until_called-outcome.ensures.recorded in
     call_of catalogue records m.execution execution m.federate f c.args.call.now c.tick_until_called-outcome.result was.0 was.1 own
 
+pub returns-in-Tick-clause-added : goal.returns-in-Tick-clause-added
+returns-in-Tick-clause-added g c = λ execution f before.
+    let was = subst (λ (p : Player g.row.L.Denot g.row.B.Denot g.row.P.Denot g.row.F.Denot). IsPlayerAs execution f p) c.in-Joined.is before in
+    let m = c.in-Joined.federate in
+    let catalogue = c.args.stage.now.catalogue.now in
+    let new = c.tick_until_called-outcome.new.federate.caller in
+    let own = added_asked catalogue m.execution m.federate c.args.call.now None c.tick_until_called-outcome.result m.caller new c.in-Tick.ensures c.tick_until_called-outcome.ensures.added in
+    let adds : AddsCall catalogue execution f c.args.call.now c.tick_until_called-outcome.result (caller_of c.args.player) new =
+    rw c.in-Joined.is (added_call_of catalogue m.execution execution m.federate f c.args.call.now c.tick_until_called-outcome.result m.caller new was.0 was.1 own) in
+    adds
+
 pub returns-in_default : goal.returns-in_default
 returns-in_default g c =
     let m = c.in-Joined.federate in
@@ -32,12 +45,24 @@ returns-in_default g c =
       recorded = λ execution f before.
           let was = subst (λ (p : Player g.row.L.Denot g.row.B.Denot g.row.P.Denot g.row.F.Denot). IsPlayerAs execution f p) c.in-Joined.is before in
           call_of catalogue (caller_of new).transcript m.execution execution m.federate f c.args.call.now c.do_deed.result.outcome was.0 was.1 both.1;
+      added = λ execution f before.
+          let was = subst (λ (p : Player g.row.L.Denot g.row.B.Denot g.row.P.Denot g.row.F.Denot). IsPlayerAs execution f p) c.in-Joined.is before in
+          let own = added_deed catalogue c.args.call.now m c.of.result c.do_deed.result.outcome new c.of.ensures c.do_deed.ensures.done in
+          let adds : AddsCall catalogue execution f c.args.call.now c.do_deed.result.outcome (caller_of c.args.player) (caller_of new) =
+          rw c.in-Joined.is (added_call_of catalogue m.execution execution m.federate f c.args.call.now c.do_deed.result.outcome m.caller (caller_of new) was.0 was.1 own) in
+          adds;
     }
 
 pub returns-in-Gone-clause-recorded : goal.returns-in-Gone-clause-recorded
 returns-in-Gone-clause-recorded g c = λ execution f before.
     let gone = subst (λ (p : Player g.row.L.Denot g.row.B.Denot g.row.P.Denot g.row.F.Denot). IsPlayerAs execution f p) c.in-Gone.is before in
     inr (unjoined c.args.stage.now.catalogue.now c.in-Gone.left.caller.transcript execution f c.args.call.now gone)
+
+pub returns-in-Gone-clause-added : goal.returns-in-Gone-clause-added
+returns-in-Gone-clause-added g c = λ execution f before.
+    let gone = subst (λ (p : Player g.row.L.Denot g.row.B.Denot g.row.P.Denot g.row.F.Denot). IsPlayerAs execution f p) c.in-Gone.is before in
+    let left = c.in-Gone.left.caller in
+    rw c.in-Gone.is ([], sym (append-nil left.transcript), inr (unjoined c.args.stage.now.catalogue.now left.transcript execution f c.args.call.now gone))
 
 pub returns-in-Gone-clause-same : goal.returns-in-Gone-clause-same
 returns-in-Gone-clause-same g c = λ execution f before. subst (λ (p : Player g.row.L.Denot g.row.B.Denot g.row.P.Denot g.row.F.Denot). IsPlayerAs execution f p) c.in-Gone.is before

@@ -1,34 +1,48 @@
-use Rattle.std.proofs.Common.{◌∙◌, ap, Option, None}
-use Rattle.hla_callbacks.specs.declared.callback.Callback.{Callback}
-use Rattle.hla_machine.specs.declared.step.Answer.{Answer}
+use Rattle.std.proofs.Common.{◌≡◌, ◌∙◌, subst, None}
+use Rattle.hla_machine.specs.declared.step.Act.TheVariants as act
 use Rattle.hla_machine.specs.declared.step.Answer.TheVariants as answer
+use Rattle.hla_machine.specs.declared.step.Outcome.{Outcome}
 use Rattle.hla_machine.specs.declared.step.Outcome.TheVariants as outcome
+use Rattle.hla_machine.specs.declared.step.Step.TheVariants as step
+use Rattle.hla_run.specs.Recorded.{AddsAct}
+use Rattle.hla_run.proofs.AnswerLemmas.{added_act_of, added_behind, added_tick}
 use Rattle.hla_run.proofs.RecordLemmas.{act_of, done_recorded, grown_twice, ticked_recorded}
 use Rattle.hla_run.proofs.life.tick_until_called.Goals as goal
 
 pub loop-tick-preserved : goal.loop-tick-preserved
 loop-tick-preserved g c =
     let kept = c.loop-tick.invariant in
-    let both = ticked_recorded c.loop-tick.federate c.tick.new.self _ c.outcome_of_tick.result c.tick.ensures.answered c.outcome_of_tick.ensures in
     let first = c.args.federate.now in
-    let ticked = act_of c.tick.new.self.caller.transcript c.loop-tick.federate.execution first.execution c.loop-tick.federate.federate first.federate c.outcome_of_tick.result kept.execution kept.federate both.1 in
-    let vain = ap (λ (k : Option Callback). answer.Ticked k) c.in-Done-Ticked-None.field-0-0-is in
-    let nothing = c.in-Done-Ticked-None.is ∙ ap (λ (a : Answer). outcome.Done a) (c.in-Done-Ticked-None.field-0-is ∙ vain) in
+    let one = c.loop-tick.federate in
+    let new = c.tick.new.self in
+    let out = c.outcome_of_tick-ended.result in
+    let asked = act.Step (step.Tick first.federate) in
+    let both = ticked_recorded one new _ out c.tick.ensures.answered c.outcome_of_tick-ended.ensures in
+    let ticked = act_of new.caller.transcript one.execution first.execution one.federate first.federate out kept.execution kept.federate both.1 in
+    let adds = added_act_of one.execution first.execution one.federate first.federate out one.caller new.caller kept.execution kept.federate (added_tick one new _ out c.tick.ensures.answered c.outcome_of_tick-ended.ensures) in
+    let nothing : out ≡ outcome.Done (answer.Ticked None) = c.is_vain.ensures.0 c.if-not-is_vain.false in
     record {
       execution = c.tick.ensures.execution ∙ kept.execution;
       federate = c.tick.ensures.federate ∙ kept.federate;
-      extended = grown_twice c.args.federate.now.caller c.loop-tick.federate.caller c.tick.new.self.caller kept.extended both.0;
-      vain = λ _. done_recorded c.tick.new.self.caller.transcript first.execution _ c.outcome_of_tick.result (answer.Ticked None) nothing ticked;
+      extended = grown_twice first.caller one.caller new.caller kept.extended both.0;
+      vain = λ _. done_recorded new.caller.transcript first.execution asked out (answer.Ticked None) nothing ticked;
+      added = λ _. added_behind first.caller one.caller new.caller first.execution asked (outcome.Done (answer.Ticked None)) kept.extended.0 kept.extended.1
+          (subst (λ (o : Outcome). AddsAct first.execution asked o one.caller new.caller) nothing adds);
     }
 
-pub returns-in_default-3 : goal.returns-in_default-3
-returns-in_default-3 g c =
+pub returns-then-not-is_vain : goal.returns-then-not-is_vain
+returns-then-not-is_vain g c =
     let kept = c.loop-tick.invariant in
-    let both = ticked_recorded c.loop-tick.federate c.tick.new.self _ c.outcome_of_tick.result c.tick.ensures.answered c.outcome_of_tick.ensures in
     let first = c.args.federate.now in
+    let one = c.loop-tick.federate in
+    let new = c.tick.new.self in
+    let out = c.outcome_of_tick-ended.result in
+    let both = ticked_recorded one new _ out c.tick.ensures.answered c.outcome_of_tick-ended.ensures in
     record {
       execution = c.tick.ensures.execution ∙ kept.execution;
       federate = c.tick.ensures.federate ∙ kept.federate;
-      extended = grown_twice first.caller c.loop-tick.federate.caller c.tick.new.self.caller kept.extended both.0;
-      recorded = act_of c.tick.new.self.caller.transcript c.loop-tick.federate.execution first.execution c.loop-tick.federate.federate first.federate c.outcome_of_tick.result kept.execution kept.federate both.1;
+      extended = grown_twice first.caller one.caller new.caller kept.extended both.0;
+      recorded = act_of new.caller.transcript one.execution first.execution one.federate first.federate out kept.execution kept.federate both.1;
+      added = added_behind first.caller one.caller new.caller first.execution (act.Step (step.Tick first.federate)) out kept.extended.0 kept.extended.1
+          (added_act_of one.execution first.execution one.federate first.federate out one.caller new.caller kept.execution kept.federate (added_tick one new _ out c.tick.ensures.answered c.outcome_of_tick-ended.ensures));
     }

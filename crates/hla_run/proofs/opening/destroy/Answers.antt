@@ -5,6 +5,7 @@ use Rattle.hla_callers.specs.Callers.{Office}
 use Rattle.hla_run.specs.Recorded.{HasExtended, KeepsOffice}
 use Rattle.hla_run.proofs.RecordLemmas.{destroyed_line, grown_same, grown_twice, line_at, office_noted, office_same}
 use Rattle.hla_commands.specs.declared.lines.Command.TheVariants as command
+use Rattle.hla_run.proofs.KeptLemmas.{kept_calls_noted, kept_calls_same, other_call}
 use Rattle.hla_run.proofs.StrangerLemmas.{joinings_noted, joinings_same, other_line}
 use Rattle.hla_run.proofs.opening.destroy.Goals.{in-Destroy, in_default}
 use Rattle.hla_run.proofs.opening.destroy.Goals as goal
@@ -29,11 +30,14 @@ loop-place-preserved g c =
             recorded = subst (λ (x : Office). KeepsOffice lines x.own c.args.outcomes.now c.match-line.outcomes) (sym w.rti-is) noted;
             joinings = joinings_noted lines c.args.outcomes.now before c.match-line.outcomes told kept.joinings (w.outcomes-is ∙ w.note.ensures.noted)
                 (other_line lines c.loop-place.place l at (λ name is. let clash : command.Destroy ≡ command.Join name = sym w.in-Destroy.is ∙ is in cc));
+            calls = kept_calls_noted lines c.args.outcomes.now before c.match-line.outcomes told kept.calls (w.outcomes-is ∙ w.note.ensures.noted)
+                (other_call lines c.loop-place.place l at (λ name call is. let clash : command.Destroy ≡ command.Federate name call = sym w.in-Destroy.is ∙ is in cc));
           }
       | in_default w ↦ record {
         each = ap (λ (os : List (Option Outcome)). length os) w.outcomes-is ∙ kept.each;
         own = subst (λ (x : Office). HasExtended first x.own) (sym w.rti-is) kept.own;
         recorded = subst (λ (x : Office). KeepsOffice lines x.own c.args.outcomes.now c.match-line.outcomes) (sym w.rti-is) (office_same lines old old (grown_same old old refl) c.args.outcomes.now before c.match-line.outcomes kept.recorded w.outcomes-is);
         joinings = joinings_same lines c.args.outcomes.now before c.match-line.outcomes kept.joinings w.outcomes-is;
+        calls = kept_calls_same lines c.args.outcomes.now before c.match-line.outcomes kept.calls w.outcomes-is;
       }
     ]

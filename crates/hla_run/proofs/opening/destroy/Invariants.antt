@@ -1,5 +1,5 @@
 use Rattle.std.proofs.Common.{◌≡◌, length}
-use Rattle.hla_run.specs.Recorded.{HasExtended, KeepsJoinings, KeepsOffice}
+use Rattle.hla_run.specs.Recorded.{HasExtended, KeepsCalls, KeepsJoinings, KeepsOffice}
 use Rattle.hla_run.proofs.opening.destroy.Given as goal
 
 abbrev pub invariant-loop-place : goal.invariant-loop-place
@@ -8,4 +8,5 @@ invariant-loop-place g l = record {
   own : HasExtended l.fn.rti.own l.rti.own;
   recorded : KeepsOffice l.lines l.rti.own l.fn.outcomes l.outcomes;
   joinings : KeepsJoinings l.lines l.fn.outcomes l.outcomes;
+  calls : KeepsCalls l.lines l.fn.outcomes l.outcomes;
 }

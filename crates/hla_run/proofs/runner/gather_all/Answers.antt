@@ -4,6 +4,7 @@ use Rattle.std.proofs.lemmas.Iterator.Adapters.{YieldsList-from_vec}
 use Rattle.std.proofs.lemmas.Iterator.Consumers.{YieldsList-end}
 use Rattle.hla_run.proofs.RecordLemmas.{gathered_all_of, gathered_more}
 use Rattle.hla_run.proofs.StrangerLemmas.{calls_more, calls_of}
+use Rattle.hla_run.proofs.TurnLemmas.{turns_more, turns_of}
 use Rattle.hla_run.proofs.runner.gather_all.Goals as goal
 
 pub loop-life-preserved : goal.loop-life-preserved
@@ -12,6 +13,8 @@ loop-life-preserved g c = record {
   recorded = gathered_more c.loop-life.yielded c.in-Some.life c.loop-life.lefts.items c.gather.new.lefts.items c.args.outcomes.now c.loop-life.outcomes c.gather.new.outcomes c.loop-life.invariant.recorded c.gather.ensures.told
       c.in_ok-gather.ensures.left;
   calls = calls_more c.loop-life.yielded c.in-Some.life c.args.outcomes.now c.loop-life.outcomes c.gather.new.outcomes c.loop-life.invariant.calls c.gather.ensures.told;
+  turns = turns_more c.loop-life.yielded c.in-Some.life c.loop-life.lefts.items c.gather.new.lefts.items c.loop-life.outcomes c.gather.new.outcomes c.loop-life.invariant.turns c.gather.ensures.told c.in_ok-gather.ensures.whole
+      c.in_ok-gather.ensures.left;
 }
 
 pub returns-clause-recorded : goal.returns-clause-recorded
@@ -27,3 +30,10 @@ returns-clause-calls g c =
     let given = YieldsList-end (YieldsList-from_vec {s = c.into_iter-life-iterator.result} lives (cc) (cc)) c.loop-life.yielded c.loop-life.life-iterator c.loop-life.yielded_by c.next.result c.next.new.self c.in-None.is c.next.ensures.steps in
     let all : c.loop-life.yielded ≡ lives = sym (map-id c.loop-life.yielded) ∙ given.0 in
     calls_of c.loop-life.yielded lives c.args.outcomes.now c.loop-life.outcomes all c.loop-life.invariant.calls
+
+pub returns-clause-turns : goal.returns-clause-turns
+returns-clause-turns g c =
+    let lives = c.args.lives.items in
+    let given = YieldsList-end (YieldsList-from_vec {s = c.into_iter-life-iterator.result} lives (cc) (cc)) c.loop-life.yielded c.loop-life.life-iterator c.loop-life.yielded_by c.next.result c.next.new.self c.in-None.is c.next.ensures.steps in
+    let all : c.loop-life.yielded ≡ lives = sym (map-id c.loop-life.yielded) ∙ given.0 in
+    turns_of c.loop-life.yielded lives c.loop-life.lefts.items c.loop-life.outcomes all c.loop-life.invariant.turns

@@ -1,15 +1,17 @@
-use Rattle.std.proofs.Common.{◌<◌, ℕ, List, Bool, Option, None, length, get_or, sym, subst, ◌∙◌, ap, arith}
+use Rattle.std.proofs.Common.{◌≡◌, ◌<◌, ℕ, List, Bool, true, false, Option, None, length, get_or, sym, subst, ◌∙◌, ap, arith}
 use Rattle.std.specs.Prelude.{slice_index_or}
 use Rattle.std.specs.List.{All}
 use Rattle.hla_machine.specs.declared.step.Outcome.{Outcome}
-use Rattle.hla_run.specs.Recorded.{AreJoined, AreNotTold, AreOutcomesRecorded, HasEachLife, HasJoined, IsFresh, IsLifeOf, IsLifeRecorded, IsTranscriptIn, KeepsJoinings, is_stranger}
+use Rattle.hla_run.specs.Recorded.{AreJoined, AreNotTold, AreOutcomesRecorded, HasEachLife, HasJoined, IsFresh, IsLifeOf, IsLifeRecorded, IsNameInTurn, IsToldTo, IsTranscriptIn, KeepsJoinings, has_life, is_stranger}
 use Rattle.hla_run.specs.declared.life.Life.{Life}
 use Rattle.hla_run.proofs.RecordLemmas.{blank_recorded, fresh_recorded, grown_within, joined_in, joined_same, none_at}
+use Rattle.hla_run.proofs.AnswerLemmas.{told_first}
+use Rattle.hla_run.proofs.KeptLemmas.{known_life, named_all, turn_kept}
 use Rattle.hla_run.proofs.StrangerLemmas.{each_life_kept, joinings_twice, stranger_told}
 use Rattle.hla_run.proofs.runner.run_lines.Goals as goal
 
 pub returns-then-are_of_all-clause-recorded : goal.returns-then-are_of_all-clause-recorded
-returns-then-are_of_all-clause-recorded g c = λ history lefts own.
+returns-then-are_of_all-clause-recorded g c = λ history lefts drawn own.
     let catalogue = c.args.catalogue.now in
     let lines = c.args.lines.now in
     let execution = c.in_ok-execution.execution in
@@ -26,7 +28,7 @@ returns-then-are_of_all-clause-recorded g c = λ history lefts own.
     let within : k < length lives = omega (arith, below, c.in-Ok.ensures.len) in
     let job = (c.in-Ok.ensures.each k d within).1 in
     let fresh = subst (λ (life : Life g.row.L.Denot g.row.B.Denot g.row.P.Denot g.row.F.Denot). IsFresh execution life) (job.job_is job.job) (c.in_ok-lives.ensures.fresh k job.job within) in
-    let called : IsLifeRecorded catalogue lines execution job.job → IsLifeRecorded catalogue lines execution (get_or c.in-Ok.lives.items k d) = job.call.met.1 execution in
+    let called : IsLifeRecorded catalogue lines execution job.job → IsLifeRecorded catalogue lines execution (get_or c.in-Ok.lives.items k d) = job.call.met.1.0 execution in
     called (fresh_recorded catalogue lines execution job.job fresh) in
     let named : AreJoined history execution c.in-Ok.lives.items = λ k d below.
     let within : k < length lives = omega (arith, below, c.in-Ok.ensures.len) in
@@ -41,4 +43,20 @@ returns-then-are_of_all-clause-recorded g c = λ history lefts own.
     let first_lives : HasEachLife lines seen c.«open».new.outcomes =
     subst (λ (ls : List (Life g.row.L.Denot g.row.B.Denot g.row.P.Denot g.row.F.Denot)). HasEachLife lines ls c.«open».new.outcomes) (sym c.as_slice.ensures.value) (c.in_ok-lives.ensures.lives untold) in
     let each : HasEachLife lines seen c.destroy.new.outcomes = each_life_kept lines seen c.«open».new.outcomes c.destroy.new.outcomes all first_lives in
-    record { stranger = stranger; recorded = c.destroy.ensures.recorded catalogue history stranger own told; strangers = stranger_told lines seen c.destroy.new.outcomes each }
+    let whole : All (IsToldTo lines (length lines)) c.in-Ok.lives.items = λ k d below.
+    let within : k < length lives = omega (arith, below, c.in-Ok.ensures.len) in
+    let job = (c.in-Ok.ensures.each k d within).1 in
+    let fresh = subst (λ (life : Life g.row.L.Denot g.row.B.Denot g.row.P.Denot g.row.F.Denot). IsFresh execution life) (job.job_is job.job) (c.in_ok-lives.ensures.fresh k job.job within) in
+    let called : IsToldTo lines 0 job.job → IsToldTo lines (length lines) (get_or c.in-Ok.lives.items k d) = job.call.met.1.1 in
+    called (told_first lines job.job fresh.1) in
+    let same_names : (k : ℕ) (d e : Life g.row.L.Denot g.row.B.Denot g.row.P.Denot g.row.F.Denot) → k < length lives → IsLifeOf (get_or lives k d) (get_or c.in-Ok.lives.items k e) = λ k d e below.
+    let job = (c.in-Ok.ensures.each k e below).1 in
+    let same : IsLifeOf job.job (get_or c.in-Ok.lives.items k e) = job.call.met.0 in
+    subst (λ (first : Life g.row.L.Denot g.row.B.Denot g.row.P.Denot g.row.F.Denot). IsLifeOf first (get_or c.in-Ok.lives.items k e)) (sym (job.job_is d)) same in
+    let turns : (name : List ℕ) → stranger name ≡ false → IsNameInTurn catalogue lines history c.destroy.new.outcomes name = λ name known.
+    let first : has_life lives name ≡ true =
+    subst (λ (ls : List (Life g.row.L.Denot g.row.B.Denot g.row.P.Denot g.row.F.Denot)). has_life ls name ≡ true) c.as_slice.ensures.value (known_life seen name known) in
+    let many : length c.in-Ok.lives.items ≡ length lives = omega (arith, c.in-Ok.ensures.len) in
+    let has = named_all lives c.in-Ok.lives.items name many same_names first in
+    turn_kept catalogue lines history c.gather_all.new.outcomes c.destroy.new.outcomes name c.destroy.ensures.calls (c.in_ok-lefts.ensures.turns catalogue lines execution history lived whole named lefts drawn name has) in
+    record { stranger = stranger; recorded = c.destroy.ensures.recorded catalogue history stranger own told; strangers = stranger_told lines seen c.destroy.new.outcomes each; in_turn = turns }

@@ -1,0 +1,197 @@
+-- What is told of a federate's lines is answered in turn, through what all leave behind.
+use Rattle.std.proofs.Common.{◌≡◌, ℕ, zero, suc, ◌<◌, List, [], ◌∷◌, ◌++◌, length, get_or, filter, Bool, true, false, Option, None, Some, ◌⊎◌, inl, inr, sym, ap, subst, ◌∙◌, arith}
+use Rattle.std.specs.Prelude.{slice_index_or, slice_set}
+use Rattle.std.specs.List.{All, Contains}
+use Rattle.std.specs.Str.{bytes_eq}
+use Rattle.std.specs.Prelude.{◌||◌}
+use Rattle.std.proofs.lemmas.Bool.{both_ways, cases_Bool, cases_eq, cond-true, cond-false, or_cases}
+use Rattle.std.proofs.lemmas.Bool.Decides.{not_from_Decides}
+use Rattle.std.proofs.lemmas.List.Elements.{All-contains, Contains-append_left, Contains-append_right, Contains-push, Contains-get_or}
+use Rattle.std.proofs.lemmas.Option.{slice_get_within}
+use Rattle.std.proofs.lemmas.Slice.Eq.{bytes_eq-Decides}
+use Rattle.hla_catalogue.specs.CatalogueValue.{CatalogueValue}
+use Rattle.hla_commands.specs.declared.lines.Command.TheVariants as command
+use Rattle.hla_commands.specs.declared.lines.Line.{Line}
+use Rattle.hla_machine.specs.declared.step.Outcome.{Outcome}
+use Rattle.hla_machine.specs.declared.step.Record.{Record}
+use Rattle.hla_callers.specs.Callers.{Leaver}
+use Rattle.hla_players.specs.Deeds.{caller_of}
+use Rattle.hla_outcomes.specs.Running.{with_line_noted, with_lines_noted}
+use Rattle.hla_outcomes.specs.declared.outcomes.LineOutcome.{LineOutcome}
+use Rattle.hla_run.specs.Recorded.{AreAnsweredInTurn, GathersInTurn, HasJoined, IsDrawnFrom, IsLifeRecorded, IsNameInTurn, IsOwnTelling, IsToldTo, IsTranscriptIn, LeavesBehind, has_life}
+use Rattle.hla_run.specs.declared.life.Life.{Life}
+use Rattle.hla_run.proofs.RecordLemmas.{noted_cases, unmade_in}
+use Rattle.hla_run.proofs.StrangerLemmas.{life_or}
+
+-- ---- a list that was filtered
+abbrev IsSplit : (Record → Bool) → List Record → List Record → Record → Type 0
+IsSplit p history rest r = (before : List Record) × (after : List Record) × (history ≡ before ++ r ∷ after) × (filter p after ≡ rest)
+
+split_past : (p : Record → Bool) (x : Record) (xs rest : List Record) (r : Record) → IsSplit p xs rest r → IsSplit p (x ∷ xs) rest r
+split_past p x xs rest r h = (x ∷ h.0, h.1, ap (λ (rs : List Record). x ∷ rs) h.2, h.3)
+
+split_kept : (p : Record → Bool) (x : Record) (xs passed rest : List Record) (r : Record) → ((more : List Record) → filter p xs ≡ more ++ r ∷ rest → IsSplit p xs rest r) → x ∷ filter p xs ≡ passed ++ r ∷ rest → IsSplit p (x ∷ xs) rest r
+split_kept p x xs [] rest r again is =
+    let same : x ≡ r = cc in
+    let left : filter p xs ≡ rest = cc in
+    ([], xs, ap (λ (y : Record). y ∷ xs) same, left)
+split_kept p x xs (y ∷ ys) rest r again is =
+    let left : filter p xs ≡ ys ++ r ∷ rest = cc in
+    split_past p x xs rest r (again ys left)
+
+filter_split : (p : Record → Bool) (history passed rest : List Record) (r : Record) → filter p history ≡ passed ++ r ∷ rest → (before : List Record) × (after : List Record) × (history ≡ before ++ r ∷ after) × (filter p after ≡ rest)
+filter_split p [] [] rest r is = absurd (cc)
+filter_split p [] (y ∷ ys) rest r is = absurd (cc)
+filter_split p (x ∷ xs) passed rest r is = elim (cases_Bool (p x)) [
+  | inl kept ↦ split_kept p x xs passed rest r (λ more e. filter_split p xs more rest r e) (sym (cond-true (p x) (x ∷ filter p xs) (filter p xs) kept) ∙ is)
+  | inr out ↦ split_past p x xs rest r (filter_split p xs passed rest r (sym (cond-false (p x) (x ∷ filter p xs) (filter p xs) out) ∙ is))
+]
+
+-- ---- in turn among more records
+pub turn_drawn : (c : CatalogueValue) (lines : List Line) (all : List Record) (execution : List ℕ) (f : ℕ) (name : List ℕ) (p : Record → Bool) (history : List Record) (told : List LineOutcome) → AreAnsweredInTurn c lines all execution f name (filter p history) told
+    → AreAnsweredInTurn c lines all execution f name history told
+turn_drawn c lines all execution f name p history [] h = tt
+turn_drawn c lines all execution f name p history (t ∷ ts) h = (
+  h.0,
+  h.1,
+  elim h.2 [
+    | inl told ↦
+        let parts = filter_split p history told.1.passed told.0 told.1.found told.1.splits in
+        let others = subst (λ (rs : List Record). AreAnsweredInTurn c lines all execution f name rs ts) (sym parts.3) told.2 in
+        inl (parts.1, record { passed = parts.0; found = told.1.found; splits = parts.2; answer = told.1.answer }, turn_drawn c lines all execution f name p parts.1 ts others)
+    | inr none ↦ inr (none.0, turn_drawn c lines all execution f name p history ts none.1)
+  ],
+)
+
+pub turn_in : (c : CatalogueValue) (lines : List Line) (wider all : List Record) (execution : List ℕ) (f : ℕ) (name : List ℕ) (records : List Record) (told : List LineOutcome) → IsTranscriptIn wider all → AreAnsweredInTurn c lines all execution f name records told
+    → AreAnsweredInTurn c lines wider execution f name records told
+turn_in c lines wider all execution f name records [] within h = tt
+turn_in c lines wider all execution f name records (t ∷ ts) within h = (
+  h.0,
+  h.1,
+  elim h.2 [
+    | inl told ↦ inl (told.0, told.1, turn_in c lines wider all execution f name told.0 ts within told.2)
+    | inr none ↦ inr (unmade_in c wider all execution f h.0 t.outcome within none.0, turn_in c lines wider all execution f name records ts within none.1)
+  ],
+)
+
+-- ---- outcomes by place
+noted_same : (xs : List (Option Outcome)) (i : ℕ) (v o : Outcome) → slice_index_or (slice_set xs i (Some v)) i None ≡ Some o → v ≡ o
+noted_same [] i v o is = absurd (cc)
+noted_same (x ∷ xs) zero v o is = cc
+noted_same (x ∷ xs) (suc i) v o is = noted_same xs i v o is
+
+first_or : (t u : LineOutcome) (ts : List LineOutcome) (k : ℕ) → k < length (t ∷ ts) → slice_index_or (t ∷ ts) k u ≡ u → (t ≡ u) ⊎ Contains ts u
+first_or t u ts zero below is = inl is
+first_or t u ts (suc k) below is = inr (k, omega arith, is)
+
+none_more : (t : LineOutcome) (ts : List LineOutcome) (place : ℕ) → (t.place ≡ place → ⊥) → ((u : LineOutcome) → Contains ts u → u.place ≡ place → ⊥) → (u : LineOutcome) → Contains (t ∷ ts) u → u.place ≡ place → ⊥
+none_more t ts place first others u there at = elim (first_or t u ts there.0 there.1 there.2) [
+  | inl same ↦ first (ap (λ (x : LineOutcome). x.place) same ∙ at)
+  | inr later ↦ others u later at
+]
+
+noted_first : (t : LineOutcome) (place : ℕ) (o : Outcome) → t.place ≡ place → t.outcome ≡ o → t ≡ record { place = place; outcome = o }
+noted_first t place o at is =
+    let first : t ≡ record { place = place; outcome = t.outcome } = ap (λ (n : ℕ). let x : LineOutcome = record { place = n; outcome = t.outcome } in x) at in
+    first ∙ ap (λ (y : Outcome). let x : LineOutcome = record { place = place; outcome = y } in x) is
+
+noted_all : (told : List LineOutcome) (outcomes : List (Option Outcome)) (place : ℕ) (o : Outcome) → slice_index_or (with_lines_noted outcomes told) place None ≡ Some o
+    → Contains told (record { place = place; outcome = o }) ⊎ ((slice_index_or outcomes place None ≡ Some o) × ((t : LineOutcome) → Contains told t → t.place ≡ place → ⊥))
+noted_all [] outcomes place o is = inr (is, λ t there at. absurd (omega (arith, there.1)))
+noted_all (t ∷ ts) outcomes place o is = elim (noted_all ts (with_line_noted outcomes t) place o is) [
+  | inl later ↦ inl (Contains-append_right (t ∷ []) ts (record { place = place; outcome = o }) later)
+  | inr before ↦ elim (cases_eq t.place place) [
+    | inl at ↦
+        let noted : slice_index_or (with_line_noted outcomes t) t.place None ≡ Some o = subst (λ (n : ℕ). slice_index_or (with_line_noted outcomes t) n None ≡ Some o) (sym at) before.0 in
+        inl (0, omega arith, noted_first t place o at (noted_same outcomes t.place t.outcome o noted))
+    | inr other ↦ elim (noted_cases outcomes t.place place t.outcome o before.0) [
+      | inl was ↦ inr (was, none_more t ts place other before.1)
+      | inr now ↦ absurd (other now.0)
+    ]
+  ]
+]
+
+-- ---- what is left behind
+module _ {L B P F : Type 0} where
+  -- who has a name in more lives, and not the last
+  life_before : (lives : List (Life L B P F)) (life : Life L B P F) (name : List ℕ) → bytes_eq life.name name ≡ false → has_life (lives ++ life ∷ []) name ≡ true → has_life lives name ≡ true
+  life_before lives life name other has = elim (or_cases (has_life lives name) (bytes_eq life.name name || false) (sym (life_or lives life name) ∙ has)) [
+    | inl before ↦ before
+    | inr last ↦ elim (or_cases (bytes_eq life.name name) false last) [ inl same ↦ absurd (both_ways (bytes_eq life.name name) other same) | inr clash ↦ absurd (cc) ]
+  ]
+
+  -- the last life's own name
+  own_turn : (c : CatalogueValue) (lines : List Line) (execution : List ℕ) (history : List Record) (life : Life L B P F) (mid new : List (Option Outcome)) → new ≡ with_lines_noted mid life.told.items → life.lacks_memory ≡ false
+      → IsTranscriptIn history (caller_of life.player).transcript → IsDrawnFrom history (caller_of life.player).transcript → IsLifeRecorded c lines execution life → IsToldTo lines (length lines) life → HasJoined history execution life.name life.number
+      → IsNameInTurn c lines history new life.name
+  own_turn c lines execution history life mid new noted whole within drawn recorded told joined =
+      let transcript = (caller_of life.player).transcript in
+      let wider = turn_in c lines history transcript execution life.number life.name transcript life.told.items within recorded.2 in
+      let some = subst (λ (rs : List Record). AreAnsweredInTurn c lines history execution life.number life.name rs life.told.items) drawn.1 wider in
+      record {
+        execution = execution;
+        federate = life.number;
+        told = life.told.items;
+        joined = joined;
+        rising = told.0;
+        tells = λ place l call o at is now.
+            let here = subst (λ (os : List (Option Outcome)). slice_index_or os place None ≡ Some o) noted now in
+            elim (noted_all life.told.items mid place o here) [
+              | inl there ↦ there
+              | inr none ↦ elim told.2 [
+                | inl lacks ↦ absurd (both_ways life.lacks_memory whole lacks)
+                | inr complete ↦ let one = complete place l call (slice_get_within lines place l at) at is in absurd (none.1 one.0 one.1 one.2)
+              ]
+            ];
+        in_turn = turn_drawn c lines history execution life.number life.name drawn.0 history life.told.items some;
+      }
+
+  -- another name
+  other_turn : (c : CatalogueValue) (lines : List Line) (execution : List ℕ) (history : List Record) (life : Life L B P F) (mid new : List (Option Outcome)) (name : List ℕ) → new ≡ with_lines_noted mid life.told.items → bytes_eq life.name name ≡ false
+      → IsLifeRecorded c lines execution life → IsNameInTurn c lines history mid name → IsNameInTurn c lines history new name
+  other_turn c lines execution history life mid new name noted other recorded was = record {
+    execution = was.execution;
+    federate = was.federate;
+    told = was.told;
+    joined = was.joined;
+    rising = was.rising;
+    tells = λ place l call o at is now.
+        let here = subst (λ (os : List (Option Outcome)). slice_index_or os place None ≡ Some o) noted now in
+        elim (noted_all life.told.items mid place o here) [
+          | inl there ↦
+              let t : LineOutcome = record { place = place; outcome = o } in
+              let own = All-contains (IsOwnTelling c lines (caller_of life.player).transcript execution life.number life.name) life.told.items t recorded.1 there in
+              let clash : command.Federate life.name own.0 ≡ command.Federate name call = sym (own.1 l at) ∙ is in
+              let same : life.name ≡ name = cc in
+              absurd (not_from_Decides (bytes_eq life.name name) (bytes_eq-Decides life.name name) other same)
+          | inr none ↦ was.tells place l call o at is none.0
+        ];
+    in_turn = was.in_turn;
+  }
+
+  pub turns_more : (lives : List (Life L B P F)) (life : Life L B P F) (some all : List Leaver) (mid new : List (Option Outcome)) → GathersInTurn lives some mid → new ≡ with_lines_noted mid life.told.items → life.lacks_memory ≡ false
+      → LeavesBehind some (caller_of life.player) all → GathersInTurn (lives ++ life ∷ []) all new
+  turns_more lives life some all mid new before noted whole behind = λ c lines execution history recorded told joined lefts drawn name has.
+      let left = (behind history).0 lefts in
+      let chosen = (behind history).1 drawn in
+      let Recorded : Life L B P F → Type 0 = IsLifeRecorded c lines execution in
+      let Told : Life L B P F → Type 0 = IsToldTo lines (length lines) in
+      let Joined : Life L B P F → Type 0 = λ (x : Life L B P F). HasJoined history execution x.name x.number in
+      let others : All Recorded lives = λ k d below. All-contains Recorded (lives ++ life ∷ []) (get_or lives k d) recorded (Contains-append_left lives (life ∷ []) (get_or lives k d) (Contains-get_or lives k d below)) in
+      let others_told : All Told lives = λ k d below. All-contains Told (lives ++ life ∷ []) (get_or lives k d) told (Contains-append_left lives (life ∷ []) (get_or lives k d) (Contains-get_or lives k d below)) in
+      let others_joined : All Joined lives = λ k d below. All-contains Joined (lives ++ life ∷ []) (get_or lives k d) joined (Contains-append_left lives (life ∷ []) (get_or lives k d) (Contains-get_or lives k d below)) in
+      let own : Recorded life = All-contains Recorded (lives ++ life ∷ []) life recorded (Contains-push lives life) in
+      let own_told : Told life = All-contains Told (lives ++ life ∷ []) life told (Contains-push lives life) in
+      let own_joined : Joined life = All-contains Joined (lives ++ life ∷ []) life joined (Contains-push lives life) in
+      elim (cases_Bool (bytes_eq life.name name)) [
+        | inl same ↦
+            let here = own_turn c lines execution history life mid new noted whole left.1 chosen.1 own own_told own_joined in
+            subst (λ (n : List ℕ). IsNameInTurn c lines history new n) ((bytes_eq-Decides life.name name).0 same) here
+        | inr other ↦
+            let was = before c lines execution history others others_told others_joined left.0 chosen.0 name (life_before lives life name other has) in
+            other_turn c lines execution history life mid new name noted other own was
+      ]
+
+  pub turns_of : (some all : List (Life L B P F)) (lefts : List Leaver) (new : List (Option Outcome)) → some ≡ all → GathersInTurn some lefts new → GathersInTurn all lefts new
+  turns_of some all lefts new same h = subst (λ (ls : List (Life L B P F)). GathersInTurn ls lefts new) same h
