@@ -24,7 +24,7 @@ use Rattle.hla_players.specs.declared.player.Deed.TheVariants as deed
 use Rattle.hla_players.specs.declared.player.Player.{Player}
 use Rattle.hla_players.proofs.DeedLemmas.{answer_told}
 use Rattle.hla_outcomes.specs.declared.outcomes.LineOutcome.{LineOutcome}
-use Rattle.hla_run.specs.Recorded.{act_of_call, AddsAct, AddsCall, AreAnsweredInTurn, AreBelow, AreRising, AreToldBelow, HasAnswerOf, HasCallOf, IsActRecorded, IsAnsweredAmong, IsCallAt, IsToldTo, IsTranscriptIn, IsUnmade}
+use Rattle.hla_run.specs.Recorded.{act_of_call, AddsAct, AddsCall, AreAnsweredInTurn, ArePlacesBelow, ArePlacesRising, AreToldBelow, HasAnswerOf, HasCallOf, IsActRecorded, IsAnsweredAmong, IsCallAt, IsToldTo, IsTranscriptIn, IsUnmade}
 use Rattle.hla_run.specs.declared.life.Life.{Life}
 use Rattle.hla_run.proofs.RecordLemmas.{unmade_in}
 
@@ -170,11 +170,11 @@ module _ {L B P F : Type 0} where
       ([], ap (λ (x : Caller). x.transcript) done.0.1 ∙ sym (append-nil m.caller.transcript), inr (e, done.0.0, elim asks [ inl unknown ↦ inl unknown | inr memory ↦ inr (inr (inl memory)) ]))
 
 -- ---- lines one after another
-rising_more : (told : List LineOutcome) (t : LineOutcome) → AreRising told → AreBelow t.place told → AreRising (told ++ t ∷ [])
+rising_more : (told : List LineOutcome) (t : LineOutcome) → ArePlacesRising told → ArePlacesBelow t.place told → ArePlacesRising (told ++ t ∷ [])
 rising_more [] t rising below = (λ k d within. absurd (omega (arith, within)), tt)
 rising_more (u ∷ us) t rising below = (All-push (λ (v : LineOutcome). u.place < v.place) us t rising.0 (below 0 u (omega arith)), rising_more us t rising.1 (λ k d within. below (suc k) d (omega (arith, within))))
 
-below_next : (place : ℕ) (told : List LineOutcome) → AreBelow place told → AreBelow (place + 1) told
+below_next : (place : ℕ) (told : List LineOutcome) → ArePlacesBelow place told → ArePlacesBelow (place + 1) told
 below_next place told below = λ k d within. omega (arith, below k d within)
 
 told_next : (lines : List Line) (name : List ℕ) (place : ℕ) (told : List LineOutcome) → AreToldBelow lines name place told → ((l : Line) (call : Call) → slice_get lines place ≡ Some l → l.command ≡ command.Federate name call → (t : LineOutcome) × Contains told t × (t.place ≡ place))
@@ -200,11 +200,11 @@ module _ {L B P F : Type 0} where
       → (old.lacks_memory ≡ true → new.lacks_memory ≡ true) → IsToldTo lines place old → IsToldTo lines (place + 1) new
   told_one lines place old new t here same (inl more) lacks h =
       let told = old.told.items ++ t ∷ [] in
-      let below = subst (λ (p : ℕ). AreBelow p old.told.items) (sym here) h.1 in
+      let below = subst (λ (p : ℕ). ArePlacesBelow p old.told.items) (sym here) h.1 in
       let rising = rising_more old.told.items t h.0 below in
-      let all : AreBelow (place + 1) told = All-push (λ (u : LineOutcome). u.place < place + 1) old.told.items t (below_next place old.told.items h.1) (omega (arith, here)) in (
-        subst AreRising (sym more) rising,
-        subst (λ (ts : List LineOutcome). AreBelow (place + 1) ts) (sym more) all,
+      let all : ArePlacesBelow (place + 1) told = All-push (λ (u : LineOutcome). u.place < place + 1) old.told.items t (below_next place old.told.items h.1) (omega (arith, here)) in (
+        subst ArePlacesRising (sym more) rising,
+        subst (λ (ts : List LineOutcome). ArePlacesBelow (place + 1) ts) (sym more) all,
         elim h.2 [
           | inl lacking ↦ inl (lacks lacking)
           | inr before ↦
@@ -216,15 +216,15 @@ module _ {L B P F : Type 0} where
         ],
       )
   told_one lines place old new t here same (inr none) lacks h = (
-    subst AreRising (sym none.0) h.0,
-    subst (λ (ts : List LineOutcome). AreBelow (place + 1) ts) (sym none.0) (below_next place old.told.items h.1),
+    subst ArePlacesRising (sym none.0) h.0,
+    subst (λ (ts : List LineOutcome). ArePlacesBelow (place + 1) ts) (sym none.0) (below_next place old.told.items h.1),
     inl none.1,
   )
 
   -- none before the first line
   pub told_first : (lines : List Line) (life : Life L B P F) → life.told.items ≡ [] → IsToldTo lines 0 life
   told_first lines life none = (
-    subst AreRising (sym none) tt,
-    subst (λ (ts : List LineOutcome). AreBelow 0 ts) (sym none) (λ k d within. absurd (omega (arith, within))),
+    subst ArePlacesRising (sym none) tt,
+    subst (λ (ts : List LineOutcome). ArePlacesBelow 0 ts) (sym none) (λ k d within. absurd (omega (arith, within))),
     inr (λ place l call within found is. absurd (omega (arith, within))),
   )

@@ -178,13 +178,13 @@ AddsCall c execution f call out old new =
     (more : List Record) × (new.transcript ≡ old.transcript ++ more) × (HasCallOf c more execution f call (answer_given out) ⊎ IsUnmade c new.transcript execution f call out)
 
 -- the places of what is told rise
-abbrev pub AreRising : List LineOutcome → Type 0
-AreRising [] = Unit {0}
-AreRising (t ∷ ts) = All (λ (u : LineOutcome). t.place < u.place) ts × AreRising ts
+abbrev pub ArePlacesRising : List LineOutcome → Type 0
+ArePlacesRising [] = Unit {0}
+ArePlacesRising (t ∷ ts) = All (λ (u : LineOutcome). t.place < u.place) ts × ArePlacesRising ts
 
 -- all that is told is of lines before a place
-abbrev pub AreBelow : ℕ → List LineOutcome → Type 0
-AreBelow k told = All (λ (t : LineOutcome). t.place < k) told
+abbrev pub ArePlacesBelow : ℕ → List LineOutcome → Type 0
+ArePlacesBelow k told = All (λ (t : LineOutcome). t.place < k) told
 
 -- each line of this name before a place is told of
 abbrev pub AreToldBelow : List Line → List ℕ → ℕ → List LineOutcome → Type 0
@@ -197,7 +197,7 @@ pub record IsNameInTurn (c : CatalogueValue) (lines : List Line) (history : List
   pub federate : ℕ
   pub told : List LineOutcome
   pub joined : HasJoined history execution name federate
-  pub rising : AreRising told
+  pub rising : ArePlacesRising told
   pub tells : (place : ℕ) (l : Line) (call : Call) (o : Outcome) → slice_get lines place ≡ Some l → l.command ≡ command.Federate name call → slice_index_or outcomes place None ≡ Some o → Contains told (record { place = place; outcome = o })
   pub in_turn : AreAnsweredInTurn c lines history execution federate name history told
 
@@ -227,7 +227,7 @@ IsLifeRecorded c lines execution life =
 
 -- a federate has told of each of its lines before a place, in their order, unless it lacks memory
 abbrev pub IsToldTo : {L B P F : Type 0} → List Line → ℕ → Life L B P F → Type 0
-IsToldTo lines k life = AreRising life.told.items × AreBelow k life.told.items × ((life.lacks_memory ≡ true) ⊎ AreToldBelow lines life.name k life.told.items)
+IsToldTo lines k life = ArePlacesRising life.told.items × ArePlacesBelow k life.told.items × ((life.lacks_memory ≡ true) ⊎ AreToldBelow lines life.name k life.told.items)
 
 -- it is the life of the same federate
 abbrev pub IsLifeOf : {L B P F : Type 0} → Life L B P F → Life L B P F → Type 0

@@ -124,7 +124,7 @@ fn after_nothing<L: Ledger + Naming, B: FederateAmbassador, P: Publisher<L>, F: 
 }
 
 /// Whether a tick has given nothing.
-fn is_vain(ended: &Outcome) -> bool
+fn is_empty_tick(ended: &Outcome) -> bool
     ensures { IsTrue result ↔ (ended.now ≡ outcome.Done (answer.Ticked None)) }
 {
     matches!(ended, Outcome::Done(Answer::Ticked(None)))
@@ -155,7 +155,7 @@ fn tick_until_called<
     for _tick in 0..MAX_TICKS {
         let seen = stage.room.bouts();
         let ended = outcome_of_tick(federate.tick(rt));
-        if !is_vain(&ended) {
+        if !is_empty_tick(&ended) {
             return ended;
         }
         drop(ended);

@@ -20,7 +20,7 @@ loop-tick-preserved g c =
     let both = ticked_recorded one new _ out c.tick.ensures.answered c.outcome_of_tick-ended.ensures in
     let ticked = act_of new.caller.transcript one.execution first.execution one.federate first.federate out kept.execution kept.federate both.1 in
     let adds = added_act_of one.execution first.execution one.federate first.federate out one.caller new.caller kept.execution kept.federate (added_tick one new _ out c.tick.ensures.answered c.outcome_of_tick-ended.ensures) in
-    let nothing : out ≡ outcome.Done (answer.Ticked None) = c.is_vain.ensures.0 c.if-not-is_vain.false in
+    let nothing : out ≡ outcome.Done (answer.Ticked None) = c.is_empty_tick.ensures.0 c.if-not-is_empty_tick.false in
     record {
       execution = c.tick.ensures.execution ∙ kept.execution;
       federate = c.tick.ensures.federate ∙ kept.federate;
@@ -30,8 +30,8 @@ loop-tick-preserved g c =
           (subst (λ (o : Outcome). AddsAct first.execution asked o one.caller new.caller) nothing adds);
     }
 
-pub returns-then-not-is_vain : goal.returns-then-not-is_vain
-returns-then-not-is_vain g c =
+pub returns-then-not-is_empty_tick : goal.returns-then-not-is_empty_tick
+returns-then-not-is_empty_tick g c =
     let kept = c.loop-tick.invariant in
     let first = c.args.federate.now in
     let one = c.loop-tick.federate in
