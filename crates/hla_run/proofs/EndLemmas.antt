@@ -1,6 +1,5 @@
 -- How a run ends behind the reading of its texts, and whose transcripts are the history's.
 use Rattle.std.proofs.Common.{◌≡◌, ℕ, List, length, get_or, filter, Bool, Option, Ok, subst}
-use Rattle.std.specs.Prelude.{◌==◌}
 use Rattle.std.specs.List.{Contains}
 use Rattle.std.proofs.lemmas.List.Elements.{All-contains, All-contains_itself, All-filter}
 use Rattle.std.proofs.lemmas.Option.{slice_get-get_or}
@@ -15,7 +14,7 @@ use Rattle.hla_callers.specs.Close.{Agrees, AllAgree}
 use Rattle.hla_outcomes.specs.Running.{AreAllDone, AreTold, IsRunFrom, StopsRun, StopsTelling, StopsText, told_text}
 use Rattle.hla_outcomes.specs.declared.fault.RunFault.{RunFault}
 use Rattle.hla_outcomes.specs.declared.fault.RunFault.TheVariants as stop
-use Rattle.hla_run.specs.Recorded.{AreDrawnFrom, AreTranscriptsIn, IsTranscriptIn}
+use Rattle.hla_run.specs.Recorded.{AgreeAll, AreTranscriptsIn, IsTranscriptIn}
 
 -- what was read, and how its lines are told
 pub run_told : (fed script : List ℕ) (c : CatalogueValue) (lines : List Line) (old new : Option (List ℕ)) → Describes fed c → script_of script ≡ Ok lines → AreTold c lines old new → IsRunFrom fed script old new
@@ -65,7 +64,5 @@ agreed_in history c agrees = λ r there. filtered_in _ history r (subst (λ (rs 
 pub agreed_within : (history : List Record) (lefts : List Leaver) (own : Caller) → AllAgree history lefts own → AreTranscriptsIn history lefts
 agreed_within history lefts own agree = λ k d below. agreed_in history (get_or lefts k d).caller (agree.0 k (get_or lefts k d) below (slice_get-get_or lefts k d below))
 
-pub drawn_within : (history : List Record) (lefts : List Leaver) (own : Caller) → AllAgree history lefts own → AreDrawnFrom history lefts
-drawn_within history lefts own agree = λ k d below.
-    let c = (get_or lefts k d).caller in
-    (λ (r : Record). r.actor == c.number, agree.0 k (get_or lefts k d) below (slice_get-get_or lefts k d below))
+pub agree_all : (history : List Record) (lefts : List Leaver) (own : Caller) → AllAgree history lefts own → AgreeAll history lefts
+agree_all history lefts own agree = λ k d below. agree.0 k (get_or lefts k d) below (slice_get-get_or lefts k d below)

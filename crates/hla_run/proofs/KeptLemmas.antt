@@ -37,8 +37,10 @@ pub turn_kept : (c : CatalogueValue) (lines : List Line) (history : List Record)
 turn_kept c lines history old new name keeps h = record {
   execution = h.execution;
   federate = h.federate;
+  caller = h.caller;
   told = h.told;
   joined = h.joined;
+  agrees = h.agrees;
   rising = h.rising;
   tells = λ place l call o at is told. h.tells place l call o at is (keeps place l name call o at is told);
   in_turn = h.in_turn;

@@ -27,9 +27,9 @@ use Rattle.hla_machine.specs.declared.step.Record.{Record}
 use Rattle.hla_machine.specs.declared.step.Step.TheVariants as step
 use Rattle.hla_requests.specs.Requests.{service_of}
 use Rattle.hla_callers.specs.Callers.{Caller, FederateCaller, Leaver, HasActed, HasAnswered, HasNotActed, answer_given, nothing, said}
-use Rattle.hla_callers.specs.Close.{AllAgree}
+use Rattle.hla_callers.specs.Close.{Agrees, AllAgree}
 use Rattle.hla_players.specs.Deeds.{HasDone, HasTold, DoesDeed, IsDeedOf, IsGoneBy, caller_of}
-use Rattle.hla_run.specs.Recorded.{act_of_call, AreAnsweredInTurn, IsDrawnFrom, HasAnswerOf, HasJoined, IsOfficeRecorded, IsJoiningRecorded, IsActRecorded, IsCallRecorded, IsNamedCallRecorded, IsResignedBy, IsUnmade, IsLineRecorded, IsTellingRecorded, AreTellingsRecorded, IsOwnTelling, AreOwnTellings, AreOutcomesRecorded, HasExtended, IsTranscriptIn, IsCallAt, IsFresh, AreFresh, AreJoined, IsLifeOf, IsLifeRecorded, IsPlayerAs, NeedsNoRecord, KeepsRecorded, KeepsOffice, IsOfficeLine, LeavesBehind, GathersRecorded, RecordsTold, IsToldRecorded, IsRunRecorded}
+use Rattle.hla_run.specs.Recorded.{act_of_call, AreAnsweredInTurn, HasAnswerOf, HasJoined, IsOfficeRecorded, IsJoiningRecorded, IsActRecorded, IsCallRecorded, IsNamedCallRecorded, IsResignedBy, IsUnmade, IsLineRecorded, IsTellingRecorded, AreTellingsRecorded, IsOwnTelling, AreOwnTellings, AreOutcomesRecorded, HasExtended, IsTranscriptIn, IsCallAt, IsFresh, AreFresh, AreJoined, IsLifeOf, IsLifeRecorded, IsPlayerAs, NeedsNoRecord, KeepsRecorded, KeepsOffice, IsOfficeLine, LeavesBehind, GathersRecorded, RecordsTold, IsToldRecorded, IsRunRecorded}
 use Rattle.hla_outcomes.specs.Running.{AreAllDone, told_text, with_line_noted, with_lines_noted}
 use Rattle.hla_outcomes.specs.declared.fault.RunFault.{RunFault}
 use Rattle.hla_run.specs.declared.life.Life.{Life}
@@ -40,7 +40,7 @@ use Rattle.hla_players.specs.declared.player.Player.{Player}
 use Rattle.hla_players.specs.declared.player.Player.TheVariants as player
 use Rattle.hla_players.specs.declared.watching.Ran.{Ran}
 use Rattle.hla_players.proofs.DeedLemmas.{answer_told}
-use Rattle.hla_run.proofs.EndLemmas.{agreed_in, agreed_within, drawn_within}
+use Rattle.hla_run.proofs.EndLemmas.{agree_all, agreed_in, agreed_within}
 
 -- ---- among more records
 pub answer_in : (history records : List Record) (execution : List ℕ) (a : Act) (given : Result Answer Fault) → IsTranscriptIn history records → HasAnswerOf records execution a given → HasAnswerOf history execution a given
@@ -316,7 +316,7 @@ left_of old mid new first second c one two own P all =
 pub left_behind : (old mid new : List Leaver) (first second : Leaver) (c : Caller) → mid ≡ old ++ first ∷ [] → new ≡ mid ++ second ∷ [] → first.caller ≡ c → LeavesBehind old c new
 left_behind old mid new first second c one two own = λ history. (
   left_of old mid new first second c one two own (λ (x : Caller). IsTranscriptIn history x.transcript),
-  left_of old mid new first second c one two own (λ (x : Caller). IsDrawnFrom history x.transcript),
+  left_of old mid new first second c one two own (λ (x : Caller). Agrees history x),
 )
 
 module _ {L B P F : Type 0} where
@@ -342,7 +342,7 @@ module _ {L B P F : Type 0} where
   fresh_recorded c lines execution life fresh = (
     fresh.0,
     subst (λ (told : List LineOutcome). AreOwnTellings c lines (caller_of life.player).transcript execution life.number life.name told) (sym fresh.1) (λ k d below. absurd (omega (arith, below))),
-    subst (λ (told : List LineOutcome). AreAnsweredInTurn c lines (caller_of life.player).transcript execution life.number life.name (caller_of life.player).transcript told) (sym fresh.1) tt,
+    inr (subst (λ (told : List LineOutcome). AreAnsweredInTurn c lines (caller_of life.player).transcript execution life.number life.name (caller_of life.player).transcript told) (sym fresh.1) fresh.2),
   )
 
   -- ---- who has joined
@@ -368,7 +368,7 @@ pub told_run : (result : Result Ran RunFault) (c : CatalogueValue) (lines : List
     → RecordsTold c lines outcomes lefts own → OnOk result (Appends old new (told_text c lines outcomes)) → IfOk result (λ r. AllAgree r.closed lefts own)
     → IfOk result (λ r. IsToldRecorded r.closed c lines old new)
 told_run (Ok r) c lines outcomes lefts own old new each done recorded told agree =
-    (record { outcomes = outcomes; each = each; done = done; writes = told }, recorded r.closed (agreed_within r.closed lefts own agree) (drawn_within r.closed lefts own agree) (agreed_in r.closed own agree.1))
+    (record { outcomes = outcomes; each = each; done = done; writes = told }, recorded r.closed (agreed_within r.closed lefts own agree) (agree_all r.closed lefts own agree) (agreed_in r.closed own agree.1))
 told_run (Err e) c lines outcomes lefts own old new each done recorded told agree = tt
 
 pub run_recorded : (result : Result Ran RunFault) (fed script : List ℕ) (c : CatalogueValue) (lines : List Line) (old new : Option (List ℕ)) → Describes fed c → script_of script ≡ Ok lines → IfOk result (λ r. IsToldRecorded r.closed c lines old new)

@@ -1,10 +1,10 @@
 -- What is told of a federate's lines is answered in turn, through what all leave behind.
-use Rattle.std.proofs.Common.{◌≡◌, ℕ, zero, suc, ◌<◌, List, [], ◌∷◌, ◌++◌, length, get_or, filter, Bool, true, false, Option, None, Some, ◌⊎◌, inl, inr, sym, ap, subst, ◌∙◌, arith}
+use Rattle.std.proofs.Common.{◌≡◌, ℕ, zero, suc, ◌<◌, List, [], ◌∷◌, ◌++◌, length, get_or, true, false, Option, None, Some, ◌⊎◌, inl, inr, sym, ap, subst, ◌∙◌, arith}
 use Rattle.std.specs.Prelude.{slice_index_or, slice_set}
 use Rattle.std.specs.List.{All, Contains}
 use Rattle.std.specs.Str.{bytes_eq}
 use Rattle.std.specs.Prelude.{◌||◌}
-use Rattle.std.proofs.lemmas.Bool.{both_ways, cases_Bool, cases_eq, cond-true, cond-false, or_cases}
+use Rattle.std.proofs.lemmas.Bool.{both_ways, cases_Bool, cases_eq, or_cases}
 use Rattle.std.proofs.lemmas.Bool.Decides.{not_from_Decides}
 use Rattle.std.proofs.lemmas.List.Elements.{All-contains, Contains-append_left, Contains-append_right, Contains-push, Contains-get_or}
 use Rattle.std.proofs.lemmas.Option.{slice_get_within}
@@ -15,63 +15,27 @@ use Rattle.hla_commands.specs.declared.lines.Line.{Line}
 use Rattle.hla_machine.specs.declared.step.Outcome.{Outcome}
 use Rattle.hla_machine.specs.declared.step.Record.{Record}
 use Rattle.hla_callers.specs.Callers.{Leaver}
+use Rattle.hla_callers.specs.Close.{Agrees}
 use Rattle.hla_players.specs.Deeds.{caller_of}
 use Rattle.hla_outcomes.specs.Running.{with_line_noted, with_lines_noted}
 use Rattle.hla_outcomes.specs.declared.outcomes.LineOutcome.{LineOutcome}
-use Rattle.hla_run.specs.Recorded.{AreAnsweredInTurn, GathersInTurn, HasJoined, IsDrawnFrom, IsLifeRecorded, IsNameInTurn, IsOwnTelling, IsToldTo, IsTranscriptIn, LeavesBehind, has_life}
+use Rattle.hla_run.specs.Recorded.{AreAnsweredInTurn, GathersInTurn, HasJoined, IsLifeRecorded, IsNameInTurn, IsOwnTelling, IsToldTo, IsTranscriptIn, LeavesBehind, has_life}
 use Rattle.hla_run.specs.declared.life.Life.{Life}
 use Rattle.hla_run.proofs.RecordLemmas.{noted_cases, unmade_in}
 use Rattle.hla_run.proofs.StrangerLemmas.{life_or}
 
--- ---- a list that was filtered
-abbrev IsSplit : (Record → Bool) → List Record → List Record → Record → Type 0
-IsSplit p history rest r = (before : List Record) × (after : List Record) × (history ≡ before ++ r ∷ after) × (filter p after ≡ rest)
-
-split_past : (p : Record → Bool) (x : Record) (xs rest : List Record) (r : Record) → IsSplit p xs rest r → IsSplit p (x ∷ xs) rest r
-split_past p x xs rest r h = (x ∷ h.0, h.1, ap (λ (rs : List Record). x ∷ rs) h.2, h.3)
-
-split_kept : (p : Record → Bool) (x : Record) (xs passed rest : List Record) (r : Record) → ((more : List Record) → filter p xs ≡ more ++ r ∷ rest → IsSplit p xs rest r) → x ∷ filter p xs ≡ passed ++ r ∷ rest → IsSplit p (x ∷ xs) rest r
-split_kept p x xs [] rest r again is =
-    let same : x ≡ r = cc in
-    let left : filter p xs ≡ rest = cc in
-    ([], xs, ap (λ (y : Record). y ∷ xs) same, left)
-split_kept p x xs (y ∷ ys) rest r again is =
-    let left : filter p xs ≡ ys ++ r ∷ rest = cc in
-    split_past p x xs rest r (again ys left)
-
-filter_split : (p : Record → Bool) (history passed rest : List Record) (r : Record) → filter p history ≡ passed ++ r ∷ rest → (before : List Record) × (after : List Record) × (history ≡ before ++ r ∷ after) × (filter p after ≡ rest)
-filter_split p [] [] rest r is = absurd (cc)
-filter_split p [] (y ∷ ys) rest r is = absurd (cc)
-filter_split p (x ∷ xs) passed rest r is = elim (cases_Bool (p x)) [
-  | inl kept ↦ split_kept p x xs passed rest r (λ more e. filter_split p xs more rest r e) (sym (cond-true (p x) (x ∷ filter p xs) (filter p xs) kept) ∙ is)
-  | inr out ↦ split_past p x xs rest r (filter_split p xs passed rest r (sym (cond-false (p x) (x ∷ filter p xs) (filter p xs) out) ∙ is))
-]
-
 -- ---- in turn among more records
-pub turn_drawn : (c : CatalogueValue) (lines : List Line) (all : List Record) (execution : List ℕ) (f : ℕ) (name : List ℕ) (p : Record → Bool) (history : List Record) (told : List LineOutcome) → AreAnsweredInTurn c lines all execution f name (filter p history) told
-    → AreAnsweredInTurn c lines all execution f name history told
-turn_drawn c lines all execution f name p history [] h = tt
-turn_drawn c lines all execution f name p history (t ∷ ts) h = (
-  h.0,
-  h.1,
-  elim h.2 [
-    | inl told ↦
-        let parts = filter_split p history told.1.passed told.0 told.1.found told.1.splits in
-        let others = subst (λ (rs : List Record). AreAnsweredInTurn c lines all execution f name rs ts) (sym parts.3) told.2 in
-        inl (parts.1, record { passed = parts.0; found = told.1.found; splits = parts.2; answer = told.1.answer }, turn_drawn c lines all execution f name p parts.1 ts others)
-    | inr none ↦ inr (none.0, turn_drawn c lines all execution f name p history ts none.1)
-  ],
-)
-
 pub turn_in : (c : CatalogueValue) (lines : List Line) (wider all : List Record) (execution : List ℕ) (f : ℕ) (name : List ℕ) (records : List Record) (told : List LineOutcome) → IsTranscriptIn wider all → AreAnsweredInTurn c lines all execution f name records told
     → AreAnsweredInTurn c lines wider execution f name records told
-turn_in c lines wider all execution f name records [] within h = tt
+turn_in c lines wider all execution f name records [] within h = h
 turn_in c lines wider all execution f name records (t ∷ ts) within h = (
   h.0,
   h.1,
-  elim h.2 [
-    | inl told ↦ inl (told.0, told.1, turn_in c lines wider all execution f name told.0 ts within told.2)
-    | inr none ↦ inr (unmade_in c wider all execution f h.0 t.outcome within none.0, turn_in c lines wider all execution f name records ts within none.1)
+  h.2,
+  h.3,
+  elim h.4 [
+    | inl made ↦ inl (made.0, made.1, made.2, made.3, turn_in c lines wider all execution f name made.1 ts within made.4)
+    | inr none ↦ inr (none.0, none.1, unmade_in c wider all execution f h.0 t.outcome within none.2, turn_in c lines wider all execution f name none.0 ts within none.3)
   ],
 )
 
@@ -123,17 +87,18 @@ module _ {L B P F : Type 0} where
 
   -- the last life's own name
   own_turn : (c : CatalogueValue) (lines : List Line) (execution : List ℕ) (history : List Record) (life : Life L B P F) (mid new : List (Option Outcome)) → new ≡ with_lines_noted mid life.told.items → life.lacks_memory ≡ false
-      → IsTranscriptIn history (caller_of life.player).transcript → IsDrawnFrom history (caller_of life.player).transcript → IsLifeRecorded c lines execution life → IsToldTo lines (length lines) life → HasJoined history execution life.name life.number
+      → IsTranscriptIn history (caller_of life.player).transcript → Agrees history (caller_of life.player) → IsLifeRecorded c lines execution life → IsToldTo lines (length lines) life → HasJoined history execution life.name life.number
       → IsNameInTurn c lines history new life.name
-  own_turn c lines execution history life mid new noted whole within drawn recorded told joined =
+  own_turn c lines execution history life mid new noted whole within agrees recorded told joined =
       let transcript = (caller_of life.player).transcript in
-      let wider = turn_in c lines history transcript execution life.number life.name transcript life.told.items within recorded.2 in
-      let some = subst (λ (rs : List Record). AreAnsweredInTurn c lines history execution life.number life.name rs life.told.items) drawn.1 wider in
+      let turns : AreAnsweredInTurn c lines transcript execution life.number life.name transcript life.told.items = elim recorded.2 [ inl lacks ↦ absurd (both_ways life.lacks_memory whole lacks) | inr own ↦ own ] in
       record {
         execution = execution;
         federate = life.number;
+        caller = caller_of life.player;
         told = life.told.items;
         joined = joined;
+        agrees = agrees;
         rising = told.0;
         tells = λ place l call o at is now.
             let here = subst (λ (os : List (Option Outcome)). slice_index_or os place None ≡ Some o) noted now in
@@ -144,7 +109,7 @@ module _ {L B P F : Type 0} where
                 | inr complete ↦ let one = complete place l call (slice_get_within lines place l at) at is in absurd (none.1 one.0 one.1 one.2)
               ]
             ];
-        in_turn = turn_drawn c lines history execution life.number life.name drawn.0 history life.told.items some;
+        in_turn = turn_in c lines history transcript execution life.number life.name transcript life.told.items within turns;
       }
 
   -- another name
@@ -153,8 +118,10 @@ module _ {L B P F : Type 0} where
   other_turn c lines execution history life mid new name noted other recorded was = record {
     execution = was.execution;
     federate = was.federate;
+    caller = was.caller;
     told = was.told;
     joined = was.joined;
+    agrees = was.agrees;
     rising = was.rising;
     tells = λ place l call o at is now.
         let here = subst (λ (os : List (Option Outcome)). slice_index_or os place None ≡ Some o) noted now in
@@ -172,9 +139,9 @@ module _ {L B P F : Type 0} where
 
   pub turns_more : (lives : List (Life L B P F)) (life : Life L B P F) (some all : List Leaver) (mid new : List (Option Outcome)) → GathersInTurn lives some mid → new ≡ with_lines_noted mid life.told.items → life.lacks_memory ≡ false
       → LeavesBehind some (caller_of life.player) all → GathersInTurn (lives ++ life ∷ []) all new
-  turns_more lives life some all mid new before noted whole behind = λ c lines execution history recorded told joined lefts drawn name has.
+  turns_more lives life some all mid new before noted whole behind = λ c lines execution history recorded told joined lefts agree name has.
       let left = (behind history).0 lefts in
-      let chosen = (behind history).1 drawn in
+      let agreed = (behind history).1 agree in
       let Recorded : Life L B P F → Type 0 = IsLifeRecorded c lines execution in
       let Told : Life L B P F → Type 0 = IsToldTo lines (length lines) in
       let Joined : Life L B P F → Type 0 = λ (x : Life L B P F). HasJoined history execution x.name x.number in
@@ -186,10 +153,10 @@ module _ {L B P F : Type 0} where
       let own_joined : Joined life = All-contains Joined (lives ++ life ∷ []) life joined (Contains-push lives life) in
       elim (cases_Bool (bytes_eq life.name name)) [
         | inl same ↦
-            let here = own_turn c lines execution history life mid new noted whole left.1 chosen.1 own own_told own_joined in
+            let here = own_turn c lines execution history life mid new noted whole left.1 agreed.1 own own_told own_joined in
             subst (λ (n : List ℕ). IsNameInTurn c lines history new n) ((bytes_eq-Decides life.name name).0 same) here
         | inr other ↦
-            let was = before c lines execution history others others_told others_joined left.0 chosen.0 name (life_before lives life name other has) in
+            let was = before c lines execution history others others_told others_joined left.0 agreed.0 name (life_before lives life name other has) in
             other_turn c lines execution history life mid new name noted other own was
       ]
 

@@ -1,5 +1,5 @@
 -- What is told of the lines of federates, by the records of the history
-use Rattle.std.specs.Prelude.{◌≡◌, ◌⊎◌, ◌++◌, ◌∷◌, ◌<◌, ℕ, List, [], length, filter, Bool, true, false, not, Option, None, Some, Result, Ok, Err, slice_get, slice_index_or}
+use Rattle.std.specs.Prelude.{◌≡◌, ◌⊎◌, ◌++◌, ◌∷◌, ◌<◌, ℕ, List, [], length, Bool, true, false, not, Option, None, Some, Result, Ok, Err, slice_get, slice_index_or}
 use Rattle.hla_base.specs.declared.fault.Fault.{Fault}
 use Rattle.hla_base.specs.declared.fault.Fault.TheVariants as fault
 use Rattle.std.specs.List.{All, Contains, list_any}
@@ -22,6 +22,7 @@ use Rattle.hla_machine.specs.declared.step.Record.{Record}
 use Rattle.hla_machine.specs.declared.step.Step.TheVariants as step
 use Rattle.hla_requests.specs.Requests.{service_of}
 use Rattle.hla_callers.specs.Callers.{Caller, Leaver, answer_given}
+use Rattle.hla_callers.specs.Close.{Agrees}
 use Rattle.hla_players.specs.Deeds.{caller_of}
 use Rattle.hla_outcomes.specs.Running.{AreTold, IsRunFrom}
 use Rattle.hla_run.specs.declared.life.Life.{Life}
@@ -144,38 +145,45 @@ KeepsJoinings lines old new =
     (place : ℕ) (l : Line) (name : List ℕ) (o : Outcome) → slice_get lines place ≡ Some l → l.command ≡ command.Join name → slice_index_or new place None ≡ Some o → slice_index_or old place None ≡ Some o
 
 -- ---- each line by a record of its own, in the order of the lines
+-- this record is of this act in an execution, and answers this
+abbrev pub IsRecordOf : List ℕ → Act → Result Answer Fault → Record → Type 0
+IsRecordOf execution a given r = (r.execution ≡ execution) × (r.act ≡ a) × (answer_given r.outcome ≡ given)
+
 -- this record is of what the call asks this federate for, and answers this
-pub record IsAnswerTo (c : CatalogueValue) (execution : List ℕ) (f : ℕ) (call : Call) (given : Result Answer Fault) (r : Record) : Type 0 where
-  pub asked : Option Service
-  pub asks : service_of c call ≡ Ok asked
-  pub inside : r.execution ≡ execution
-  pub acts : r.act ≡ act_of_call asked f
-  pub answers : answer_given r.outcome ≡ given
+abbrev pub IsAnswerTo : CatalogueValue → List ℕ → ℕ → Call → Result Answer Fault → Record → Type 0
+IsAnswerTo c execution f call given r = (asked : Option Service) × (service_of c call ≡ Ok asked) × IsRecordOf execution (act_of_call asked f) given r
 
--- one of these records answers the call, and those behind it are the rest
-pub record IsAnsweredAmong (c : CatalogueValue) (execution : List ℕ) (f : ℕ) (call : Call) (given : Result Answer Fault) (records rest : List Record) : Type 0 where
-  pub passed : List Record
-  pub found : Record
-  pub splits : records ≡ passed ++ found ∷ rest
-  pub answer : IsAnswerTo c execution f call given found
+-- these records are of ticks of this federate that gave nothing
+abbrev pub AreEmptyTicks : List ℕ → ℕ → List Record → Type 0
+AreEmptyTicks execution f records = All (IsRecordOf execution (act.Step (step.Tick f)) (Ok (answer.Ticked None))) records
 
--- what is told of lines of this name is answered by these records, each by another one, in the order of the lines; or the call was not made,
--- by all records
+-- these are what a call has spent before it was answered: ticks with nothing, where it ticks, and else nothing
+abbrev pub AreSpent : CatalogueValue → List ℕ → ℕ → Call → List Record → Type 0
+AreSpent c execution f call records = AreEmptyTicks execution f records × ((records ≡ []) ⊎ (service_of c call ≡ Ok None))
+
+-- these records are what lines of this name are answered by, in the order of what is told of them, each by another one behind what it has
+-- spent; or a call was not made, by all records
 abbrev pub AreAnsweredInTurn : CatalogueValue → List Line → List Record → List ℕ → ℕ → List ℕ → List Record → List LineOutcome → Type 0
-AreAnsweredInTurn c lines all execution f name records [] = Unit {0}
+AreAnsweredInTurn c lines all execution f name records [] = records ≡ []
 AreAnsweredInTurn c lines all execution f name records (t ∷ ts) =
-    (call : Call) × IsCallAt lines t.place name call
-    × (((rest : List Record) × IsAnsweredAmong c execution f call (answer_given t.outcome) records rest × AreAnsweredInTurn c lines all execution f name rest ts)
-    ⊎ (IsUnmade c all execution f call t.outcome × AreAnsweredInTurn c lines all execution f name records ts))
+    (call : Call) × (spent : List Record) × IsCallAt lines t.place name call × AreSpent c execution f call spent
+    × (((r : Record) × (rest : List Record) × (records ≡ spent ++ r ∷ rest) × IsAnswerTo c execution f call (answer_given t.outcome) r × AreAnsweredInTurn c lines all execution f name rest ts)
+    ⊎ ((rest : List Record) × (records ≡ spent ++ rest) × IsUnmade c all execution f call t.outcome × AreAnsweredInTurn c lines all execution f name rest ts))
 
--- the caller has added records to its transcript, one of which answers the act; or it has none
-abbrev pub AddsAct : List ℕ → Act → Outcome → Caller → Caller → Type 0
-AddsAct execution a out old new = (more : List Record) × (new.transcript ≡ old.transcript ++ more) × IsActRecorded more execution a out
+-- the caller has added to its transcript what it has spent, and a record that answers the act; or that has none
+abbrev pub AddsAct : List ℕ → Act → Outcome → List Record → Caller → Caller → Type 0
+AddsAct execution a out spent old new =
+    ((r : Record) × (new.transcript ≡ old.transcript ++ (spent ++ r ∷ [])) × IsRecordOf execution a (answer_given out) r) ⊎ ((new.transcript ≡ old.transcript ++ spent) × LacksRecord out)
 
--- the caller has added records to its transcript, one of which answers the call; or it was not made
+-- a federate has ticked until something came
+abbrev pub AddsTicks : List ℕ → ℕ → Outcome → Caller → Caller → Type 0
+AddsTicks execution f out old new = (spent : List Record) × AreEmptyTicks execution f spent × AddsAct execution (act.Step (step.Tick f)) out spent old new
+
+-- the caller has added to its transcript what a call has spent, and a record that answers it; or it was not made
 abbrev pub AddsCall : CatalogueValue → List ℕ → ℕ → Call → Outcome → Caller → Caller → Type 0
 AddsCall c execution f call out old new =
-    (more : List Record) × (new.transcript ≡ old.transcript ++ more) × (HasCallOf c more execution f call (answer_given out) ⊎ IsUnmade c new.transcript execution f call out)
+    (spent : List Record) × AreSpent c execution f call spent
+    × (((r : Record) × (new.transcript ≡ old.transcript ++ (spent ++ r ∷ [])) × IsAnswerTo c execution f call (answer_given out) r) ⊎ ((new.transcript ≡ old.transcript ++ spent) × IsUnmade c new.transcript execution f call out))
 
 -- the places of what is told rise
 abbrev pub ArePlacesRising : List LineOutcome → Type 0
@@ -191,15 +199,17 @@ abbrev pub AreToldBelow : List Line → List ℕ → ℕ → List LineOutcome �
 AreToldBelow lines name k told =
     (place : ℕ) (l : Line) (call : Call) → place < k → slice_get lines place ≡ Some l → l.command ≡ command.Federate name call → (t : LineOutcome) × Contains told t × (t.place ≡ place)
 
--- what is told of the lines of this name is answered in turn, by records of a federate that has joined under it
+-- all records of a caller in the history answer what is told of the lines of this name, in turn: those of a federate that has joined under it
 pub record IsNameInTurn (c : CatalogueValue) (lines : List Line) (history : List Record) (outcomes : List (Option Outcome)) (name : List ℕ) : Type 0 where
   pub execution : List ℕ
   pub federate : ℕ
+  pub caller : Caller
   pub told : List LineOutcome
   pub joined : HasJoined history execution name federate
+  pub agrees : Agrees history caller
   pub rising : ArePlacesRising told
   pub tells : (place : ℕ) (l : Line) (call : Call) (o : Outcome) → slice_get lines place ≡ Some l → l.command ≡ command.Federate name call → slice_index_or outcomes place None ≡ Some o → Contains told (record { place = place; outcome = o })
-  pub in_turn : AreAnsweredInTurn c lines history execution federate name history told
+  pub in_turn : AreAnsweredInTurn c lines history execution federate name caller.transcript told
 
 -- of lines of federates the same is told as before, or nothing was told of them and nothing is
 abbrev pub KeepsCalls : List Line → List (Option Outcome) → List (Option Outcome) → Type 0
@@ -223,7 +233,7 @@ IsPlayerAs execution f (player.Gone l) = IsResignedBy l.caller.transcript execut
 abbrev pub IsLifeRecorded : {L B P F : Type 0} → CatalogueValue → List Line → List ℕ → Life L B P F → Type 0
 IsLifeRecorded c lines execution life =
     IsPlayerAs execution life.number life.player × AreOwnTellings c lines (caller_of life.player).transcript execution life.number life.name life.told.items
-    × AreAnsweredInTurn c lines (caller_of life.player).transcript execution life.number life.name (caller_of life.player).transcript life.told.items
+    × ((life.lacks_memory ≡ true) ⊎ AreAnsweredInTurn c lines (caller_of life.player).transcript execution life.number life.name (caller_of life.player).transcript life.told.items)
 
 -- a federate has told of each of its lines before a place, in their order, unless it lacks memory
 abbrev pub IsToldTo : {L B P F : Type 0} → List Line → ℕ → Life L B P F → Type 0
@@ -233,9 +243,9 @@ IsToldTo lines k life = ArePlacesRising life.told.items × ArePlacesBelow k life
 abbrev pub IsLifeOf : {L B P F : Type 0} → Life L B P F → Life L B P F → Type 0
 IsLifeOf old new = (new.name ≡ old.name) × (new.number ≡ old.number)
 
--- a life that tells nothing yet
+-- a life that tells nothing yet, and has done nothing
 abbrev pub IsFresh : {L B P F : Type 0} → List ℕ → Life L B P F → Type 0
-IsFresh execution life = IsPlayerAs execution life.number life.player × (life.told.items ≡ [])
+IsFresh execution life = IsPlayerAs execution life.number life.player × (life.told.items ≡ []) × ((caller_of life.player).transcript ≡ [])
 
 abbrev pub AreFresh : {L B P F : Type 0} → List ℕ → List (Life L B P F) → Type 0
 AreFresh execution lives = All (IsFresh execution) lives
@@ -279,17 +289,14 @@ IsTranscriptIn history transcript = (r : Record) → Contains transcript r → C
 abbrev pub AreTranscriptsIn : List Record → List Leaver → Type 0
 AreTranscriptsIn history lefts = All (λ (l : Leaver). IsTranscriptIn history l.caller.transcript) lefts
 
--- these records are some of the history, in its order
-abbrev pub IsDrawnFrom : List Record → List Record → Type 0
-IsDrawnFrom history records = (chosen : Record → Bool) × (records ≡ filter chosen history)
-
-abbrev pub AreDrawnFrom : List Record → List Leaver → Type 0
-AreDrawnFrom history lefts = All (λ (l : Leaver). IsDrawnFrom history l.caller.transcript) lefts
+-- these transcripts are just their callers' records of the history
+abbrev pub AgreeAll : List Record → List Leaver → Type 0
+AgreeAll history lefts = All (λ (l : Leaver). Agrees history l.caller) lefts
 
 -- a caller's transcript is left behind with the others
 abbrev pub LeavesBehind : List Leaver → Caller → List Leaver → Type 0
 LeavesBehind old c new =
-    (history : List Record) → (AreTranscriptsIn history new → AreTranscriptsIn history old × IsTranscriptIn history c.transcript) × (AreDrawnFrom history new → AreDrawnFrom history old × IsDrawnFrom history c.transcript)
+    (history : List Record) → (AreTranscriptsIn history new → AreTranscriptsIn history old × IsTranscriptIn history c.transcript) × (AgreeAll history new → AgreeAll history old × Agrees history c)
 
 -- what is told of a line needs no record
 abbrev pub NeedsNoRecord : (List ℕ → Bool) → Command → Outcome → Type 0
@@ -322,7 +329,7 @@ GathersCalls lives old new = (c : CatalogueValue) (lines : List Line) (execution
 abbrev pub GathersInTurn : {L B P F : Type 0} → List (Life L B P F) → List Leaver → List (Option Outcome) → Type 0
 GathersInTurn lives lefts new =
     (c : CatalogueValue) (lines : List Line) (execution : List ℕ) (history : List Record) → All (IsLifeRecorded c lines execution) lives → All (IsToldTo lines (length lines)) lives → AreJoined history execution lives → AreTranscriptsIn history lefts
-    → AreDrawnFrom history lefts → (name : List ℕ) → has_life lives name ≡ true → IsNameInTurn c lines history new name
+    → AgreeAll history lefts → (name : List ℕ) → has_life lives name ≡ true → IsNameInTurn c lines history new name
 
 -- ---- a run
 -- what is told of all lines is recorded, and where a name is taken for a stranger's, of no line is it told that one has joined under it; of each other
@@ -335,7 +342,7 @@ pub record AreAllRecorded (c : CatalogueValue) (lines : List Line) (history : Li
 
 -- where the history has what all have left behind, and what the infrastructure did itself, it records what is told of the lines
 abbrev pub RecordsTold : CatalogueValue → List Line → List (Option Outcome) → List Leaver → Caller → Type 0
-RecordsTold c lines outcomes lefts own = (history : List Record) → AreTranscriptsIn history lefts → AreDrawnFrom history lefts → IsTranscriptIn history own.transcript → AreAllRecorded c lines history outcomes
+RecordsTold c lines outcomes lefts own = (history : List Record) → AreTranscriptsIn history lefts → AgreeAll history lefts → IsTranscriptIn history own.transcript → AreAllRecorded c lines history outcomes
 
 -- what was written is told of lines as the history records it
 abbrev pub IsToldRecorded : List Record → CatalogueValue → List Line → Option (List ℕ) → Option (List ℕ) → Type 0

@@ -6,7 +6,7 @@ ghost use Rattle.hla_machine.specs.declared.step.Answer.TheVariants as answer;
 ghost use Rattle.hla_machine.specs.declared.step.Outcome.TheVariants as outcome;
 ghost use Rattle.hla_machine.specs.declared.step.Step.TheVariants as step;
 ghost use Rattle.hla_players.specs.Deeds.{caller_of};
-ghost use Rattle.hla_run.specs.Recorded.{AddsAct, AddsCall, HasExtended, IsActRecorded, IsCallAt, IsCallRecorded, IsLifeOf, IsLifeRecorded, IsPlayerAs, IsToldTo};
+ghost use Rattle.hla_run.specs.Recorded.{AddsCall, AddsTicks, HasExtended, IsActRecorded, IsCallAt, IsCallRecorded, IsLifeOf, IsLifeRecorded, IsPlayerAs, IsToldTo};
 
 use hla_base::{ExecutionName, Fault, FederateNo, List};
 use hla_callbacks::FederateAmbassador;
@@ -148,8 +148,8 @@ fn tick_until_called<
     ensures extended { HasExtended federate.old.caller federate.new.caller }
     ensures recorded { IsActRecorded federate.new.caller.transcript federate.old.execution
         (act.Step (step.Tick federate.old.federate)) result }
-    ensures added { AddsAct federate.old.execution (act.Step (step.Tick federate.old.federate))
-        result federate.old.caller federate.new.caller }
+    ensures added { AddsTicks federate.old.execution federate.old.federate result
+        federate.old.caller federate.new.caller }
 {
     let mut wait = LineWait::new();
     for _tick in 0..MAX_TICKS {

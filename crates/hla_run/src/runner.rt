@@ -266,8 +266,8 @@ pub fn run_scripts<
     // asks the federate for which has joined under its name, by another record of the same execution; of a line that creates,
     // destroys or joins, the record of that. Or it is refused without a record, for one of the reasons that `IsLineRecorded` names:
     // a federate's line as of one that is not joined only where it has resigned, by another record, or where no line that joins
-    // under its name is told to have joined one. Of each federate's lines each is answered by another record, in the order of
-    // the lines.
+    // under its name is told to have joined one. All records of a federate in the history answer its lines, each another one, in
+    // the order of the lines, but for ticks with nothing that a line which ticks has spent before it was answered.
     ensures recorded { IfOk result (λ r. IsRunRecorded r.closed fed.now script.now
         (W.contents out.old.inner) (W.contents out.new.inner)) }
 

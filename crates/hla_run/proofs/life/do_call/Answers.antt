@@ -3,7 +3,7 @@ use Rattle.std.proofs.lemmas.List.{append-nil}
 use Rattle.hla_players.specs.Deeds.{caller_of}
 use Rattle.hla_run.specs.Recorded.{AddsCall, HasExtended, IsPlayerAs}
 use Rattle.hla_players.specs.declared.player.Player.{Player}
-use Rattle.hla_run.proofs.AnswerLemmas.{added_asked, added_call_of, added_deed}
+use Rattle.hla_run.proofs.AnswerLemmas.{added_call_of, added_deed, added_ticks, nothing_spent}
 use Rattle.hla_run.proofs.RecordLemmas.{asked_recorded, call_of, deed_recorded, player_stays, unjoined}
 use Rattle.hla_run.proofs.life.do_call.Goals as goal
 
@@ -27,7 +27,7 @@ returns-in-Tick-clause-added g c = λ execution f before.
     let m = c.in-Joined.federate in
     let catalogue = c.args.stage.now.catalogue.now in
     let new = c.tick_until_called-outcome.new.federate.caller in
-    let own = added_asked catalogue m.execution m.federate c.args.call.now None c.tick_until_called-outcome.result m.caller new c.in-Tick.ensures c.tick_until_called-outcome.ensures.added in
+    let own = added_ticks catalogue m.execution m.federate c.args.call.now c.tick_until_called-outcome.result m.caller new c.in-Tick.ensures c.tick_until_called-outcome.ensures.added in
     let adds : AddsCall catalogue execution f c.args.call.now c.tick_until_called-outcome.result (caller_of c.args.player) new =
     rw c.in-Joined.is (added_call_of catalogue m.execution execution m.federate f c.args.call.now c.tick_until_called-outcome.result m.caller new was.0 was.1 own) in
     adds
@@ -62,7 +62,8 @@ pub returns-in-Gone-clause-added : goal.returns-in-Gone-clause-added
 returns-in-Gone-clause-added g c = λ execution f before.
     let gone = subst (λ (p : Player g.row.L.Denot g.row.B.Denot g.row.P.Denot g.row.F.Denot). IsPlayerAs execution f p) c.in-Gone.is before in
     let left = c.in-Gone.left.caller in
-    rw c.in-Gone.is ([], sym (append-nil left.transcript), inr (unjoined c.args.stage.now.catalogue.now left.transcript execution f c.args.call.now gone))
+    let catalogue = c.args.stage.now.catalogue.now in
+    rw c.in-Gone.is ([], nothing_spent catalogue execution f c.args.call.now, inr (sym (append-nil left.transcript), unjoined catalogue left.transcript execution f c.args.call.now gone))
 
 pub returns-in-Gone-clause-same : goal.returns-in-Gone-clause-same
 returns-in-Gone-clause-same g c = λ execution f before. subst (λ (p : Player g.row.L.Denot g.row.B.Denot g.row.P.Denot g.row.F.Denot). IsPlayerAs execution f p) c.in-Gone.is before

@@ -36,7 +36,7 @@ returns-clause-fresh g c = λ before.
     let pushed = c.push.ensures.items ∙ cond-true _ _ _ (ap is_ok c.in-Ok-push.is) in
     let execution = c.args.execution in
     let stands : (c.in-Ok.federate.execution ≡ execution) × (c.in-Ok.federate.federate ≡ c.number-number.result) = (ap (λ (f : FederateCaller). f.execution) c.in-Ok.ensures.federate, sym c.number-number.ensures) in
-    subst (λ (ls : List (Life g.row.L.Denot g.row.B.Denot g.row.P.Denot g.row.F.Denot)). AreFresh execution ls) (sym pushed) (fresh_more execution c.args.lives.now.items _ before (stands, c.new.ensures.items))
+    subst (λ (ls : List (Life g.row.L.Denot g.row.B.Denot g.row.P.Denot g.row.F.Denot)). AreFresh execution ls) (sym pushed) (fresh_more execution c.args.lives.now.items _ before (stands, c.new.ensures.items, ap (λ (f : FederateCaller). f.caller.transcript) c.in-Ok.ensures.federate))
 
 pub returns-clause-joined : goal.returns-clause-joined
 returns-clause-joined g c = λ before.

@@ -11,7 +11,7 @@ use Rattle.hla_run.proofs.StrangerLemmas.{each_life_kept, joinings_twice, strang
 use Rattle.hla_run.proofs.runner.run_lines.Goals as goal
 
 pub returns-then-are_of_all-clause-recorded : goal.returns-then-are_of_all-clause-recorded
-returns-then-are_of_all-clause-recorded g c = λ history lefts drawn own.
+returns-then-are_of_all-clause-recorded g c = λ history lefts agree own.
     let catalogue = c.args.catalogue.now in
     let lines = c.args.lines.now in
     let execution = c.in_ok-execution.execution in
@@ -58,5 +58,5 @@ returns-then-are_of_all-clause-recorded g c = λ history lefts drawn own.
     subst (λ (ls : List (Life g.row.L.Denot g.row.B.Denot g.row.P.Denot g.row.F.Denot)). has_life ls name ≡ true) c.as_slice.ensures.value (known_life seen name known) in
     let many : length c.in-Ok.lives.items ≡ length lives = omega (arith, c.in-Ok.ensures.len) in
     let has = named_all lives c.in-Ok.lives.items name many same_names first in
-    turn_kept catalogue lines history c.gather_all.new.outcomes c.destroy.new.outcomes name c.destroy.ensures.calls (c.in_ok-lefts.ensures.turns catalogue lines execution history lived whole named lefts drawn name has) in
+    turn_kept catalogue lines history c.gather_all.new.outcomes c.destroy.new.outcomes name c.destroy.ensures.calls (c.in_ok-lefts.ensures.turns catalogue lines execution history lived whole named lefts agree name has) in
     record { stranger = stranger; recorded = c.destroy.ensures.recorded catalogue history stranger own told; strangers = stranger_told lines seen c.destroy.new.outcomes each; in_turn = turns }

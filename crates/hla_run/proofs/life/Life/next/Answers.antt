@@ -7,7 +7,7 @@ use Rattle.hla_players.specs.Deeds.{caller_of}
 use Rattle.hla_run.specs.Recorded.{AreAnsweredInTurn, AreOwnTellings, IsOwnTelling}
 use Rattle.hla_run.specs.declared.life.Life.{Life}
 use Rattle.hla_outcomes.specs.declared.outcomes.LineOutcome.{LineOutcome}
-use Rattle.hla_run.proofs.AnswerLemmas.{told_one, turn_added, turn_same}
+use Rattle.hla_run.proofs.AnswerLemmas.{told_one, turn_added}
 use Rattle.hla_run.proofs.RecordLemmas.{grown_within, own_tellings_in}
 use Rattle.hla_run.proofs.life.Life.next.Goals.{then-lacks_memory, else-lacks_memory}
 use Rattle.hla_run.proofs.life.Life.next.Goals as goal
@@ -24,6 +24,10 @@ returns-clause-recorded g c = λ execution recorded.
     let telling : IsOwnTelling catalogue lines now execution life.number life.name told = (c.args.call.now, c.requires, c.do_call-player.ensures.recorded execution life.number recorded.0) in
     let old = caller_of life.player in
     let new = caller_of c.do_call-player.result.player in
+    let lacking : is_ok c.push.result ≡ false → c.if-lacks_memory.result ≡ true = λ n.
+    elim c.if-lacks_memory.branch [ then-lacks_memory w ↦ w.result-is ∙ w.if-lacks_memory.true | else-lacks_memory w ↦ w.result-is ∙ ap not (c.is_ok-is_kept.ensures.value ∙ n) ] in
+    let keeps : life.lacks_memory ≡ true → c.if-lacks_memory.result ≡ true = λ lacks.
+    elim c.if-lacks_memory.branch [ then-lacks_memory w ↦ w.result-is ∙ w.if-lacks_memory.true | else-lacks_memory w ↦ (let clash : false ≡ true = sym w.if-lacks_memory.false ∙ lacks in absurd (cc)) ] in
     let InTurn : List LineOutcome → Type 0 = λ all. AreAnsweredInTurn catalogue lines now execution life.number life.name now all in
     let Recorded : List LineOutcome → Type 0 = λ all. AreOwnTellings catalogue lines now execution life.number life.name all in (
       c.do_call-player.ensures.same execution life.number recorded.0,
@@ -31,14 +35,12 @@ returns-clause-recorded g c = λ execution recorded.
           (λ (y : is_ok c.push.result ≡ true). subst Recorded (sym (c.push.ensures.items ∙ cond-true _ _ _ y)) (All-push (IsOwnTelling catalogue lines now execution life.number life.name) life.told.items told before telling))
           (λ (n : is_ok c.push.result ≡ false). subst Recorded (sym (c.push.ensures.items ∙ cond-false _ _ _ n)) before)
           (cases_Bool (is_ok c.push.result)),
-      ⊎_elim
-          (λ (y : is_ok c.push.result ≡ true).
-          let added = turn_added catalogue lines execution life.number life.name old new within life.told.items recorded.2 told c.args.call.now c.requires (c.do_call-player.ensures.added execution life.number recorded.0) in
-          subst InTurn (sym (c.push.ensures.items ∙ cond-true _ _ _ y)) added)
-          (λ (n : is_ok c.push.result ≡ false).
-          let same = turn_same catalogue lines execution life.number life.name old new within life.told.items recorded.2 c.do_call-player.ensures.extended.0 c.do_call-player.ensures.extended.1 in
-          subst InTurn (sym (c.push.ensures.items ∙ cond-false _ _ _ n)) same)
-          (cases_Bool (is_ok c.push.result)),
+      elim recorded.2 [
+        | inl lacks ↦ inl (keeps lacks)
+        | inr turns ↦
+            let added = turn_added catalogue lines execution life.number life.name old new life.told.items told c.args.call.now within turns c.requires (c.do_call-player.ensures.added execution life.number recorded.0) in
+            elim (cases_Bool (is_ok c.push.result)) [ inl y ↦ inr (subst InTurn (sym (c.push.ensures.items ∙ cond-true _ _ _ y)) added) | inr n ↦ inl (lacking n) ]
+      ],
     )
 
 pub returns-clause-told : goal.returns-clause-told
