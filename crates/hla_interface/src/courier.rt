@@ -4,7 +4,9 @@ ghost use Rattle.std.specs.Prelude.{◌≡◌, None};
 ghost use Rattle.hla_machine.specs.declared.step.Act.TheVariants as act;
 ghost use Rattle.hla_machine.specs.declared.step.Answer.TheVariants as answer;
 ghost use Rattle.hla_machine.specs.declared.step.Step.TheVariants as step;
+ghost use Rattle.std.specs.List.{All};
 ghost use Rattle.hla_callers.specs.Callers.{HasAnswered, said};
+ghost use Rattle.hla_interface.specs.Exchanges.{IsExchange};
 
 use crate::answers::{announced_in, carried_in};
 use hla_base::{ExecutionName, Fault, FederateNo, Ticks};
@@ -19,7 +21,7 @@ use std::sync::ledger::Ledger;
 use std::sync::{Arc, Mutex, Wait};
 
 /// A caller that moves what is on the wires between federates (this profile). It may be moved to a thread of its own.
-/// Contracts see the caller with its transcript.
+/// Contracts see the caller with its transcript, all of whose records are of announcements and carries.
 pub struct Courier<L: Ledger + Naming, B: FederateAmbassador, W: Publisher<L>, F: Execution> {
     pub(crate) seat: Seat<L>,
     pub(crate) shared: Arc<Mutex<Locked<L, B, W, F>>, Global>,
@@ -27,11 +29,15 @@ pub struct Courier<L: Ledger + Naming, B: FederateAmbassador, W: Publisher<L>, F
 
 impl<L: Ledger + Naming, B: FederateAmbassador, W: Publisher<L>, F: Execution> Model
     for Courier<L, B, W, F> {
+    ghost use Rattle.std.specs.List.{All};
     ghost use Rattle.hla_callers.specs.Callers.{Caller};
+    ghost use Rattle.hla_interface.specs.Exchanges.{IsExchange};
 
     ghost Value = { Caller };
 
     ghost view = { λ c. c.seat };
+
+    ghost invariant = { λ c. All IsExchange c.seat.transcript };
 }
 
 impl<L: Ledger + Naming, B: FederateAmbassador, W: Publisher<L>, F: Execution> Drop
@@ -83,7 +89,8 @@ impl<L: Ledger + Naming, B: FederateAmbassador, W: Publisher<L>, F: Execution> C
 
     /// Ends the caller without a step.
     pub fn leave(self) -> Left<L, B>
-        ensures { result ≡ record { caller = self; heard = None } }
+        ensures left { result ≡ record { caller = self; heard = None } }
+        ensures exchanges { All IsExchange self.transcript }
     {
         let Courier { seat, shared: _ } = self;
         Left::new(seat, None)

@@ -242,7 +242,7 @@ impl<L: Ledger + Naming, B: FederateAmbassador, W: Publisher<L>, F: Execution> R
     /// Takes all callers back, and answers the records of the whole history, where each transcript is just the records of its
     /// caller, in order. Else `Missing` where a caller that was handed out is not in the list, and then `Transcript` with the
     /// place of the first that differs; then the infrastructure and the list come back, and nothing has changed. Each record is of
-    /// one of the callers, or of the infrastructure itself.
+    /// one of the callers, or of the infrastructure itself, whose number is 0.
     pub fn close(
         self,
         rt: &impl Wait,
@@ -251,6 +251,7 @@ impl<L: Ledger + Naming, B: FederateAmbassador, W: Publisher<L>, F: Execution> R
         requires { L.parts ≡ ledger_parts }
         ensures agree { IfOk result (λ c. AllAgree c lefts.items self.own) }
         ensures theirs { IfOk result (AreOfCallers self.handed) }
+        ensures own { self.own.number ≡ 0 }
         ensures here { OnOk result (AllHere self.handed lefts.items) }
         ensures missing { IfErr result
             (λ n. n.fault ≡ CloseFault.Missing → AllHere self.handed lefts.items → ⊥) }

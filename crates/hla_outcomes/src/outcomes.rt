@@ -1,6 +1,6 @@
 //! How the lines of a script came out.
 
-ghost use Rattle.std.specs.Prelude.{◌≡◌, ◌++◌, ◌∷◌, [], None, Some, OnOk, IfOk, IfErr, IsTrue, length, replicate, ℕ};
+ghost use Rattle.std.specs.Prelude.{◌≡◌, ◌↔◌, ◌++◌, ◌∷◌, [], None, Some, OnOk, IfOk, IfErr, IsTrue, length, replicate, ℕ};
 ghost use Rattle.hla_machine.specs.declared.step.Answer.TheVariants as answer;
 ghost use Rattle.hla_callers.specs.Callers.{answer_given, said, nothing};
 ghost use Rattle.hla_outcomes.specs.Running.{AreAllDone, IsDealtWith, told_at, told_text, with_line_noted, with_lines_noted};
@@ -95,8 +95,9 @@ fn print_told(
     place: usize,
     line: &Line<'_>,
 ) -> Result<(), Fault>
-    ensures { OnOk result
+    ensures told { OnOk result
         (text.new ≡ text.old ++ told_at catalogue.now outcomes.now place line.now) }
+    ensures err { IfErr result (λ e. e ≡ Fault.OutOfMemory) }
 {
     match outcomes.get(place) {
         Some(Some(outcome)) => print_line(text, catalogue, line.number as u64, outcome),
@@ -112,7 +113,9 @@ fn print_all(
     outcomes: &[Option<Outcome>],
     lines: &[Line<'_>],
 ) -> Result<(), Fault>
-    ensures { OnOk result (text.new ≡ text.old ++ told_text catalogue.now lines.now outcomes.now) }
+    ensures told { OnOk result (text.new
+        ≡ text.old ++ told_text catalogue.now lines.now outcomes.now) }
+    ensures err { IfErr result (λ e. e ≡ Fault.OutOfMemory) }
 {
     for (place, line) in lines.iter().enumerate() {
         print_told(text, catalogue, outcomes, place, line)?;
@@ -122,7 +125,7 @@ fn print_all(
 
 /// Whether the line at a place has an outcome, or carries or announces.
 fn is_dealt_with(outcomes: &[Option<Outcome>], place: usize, line: &Line<'_>) -> bool
-    ensures { IsTrue result → IsDealtWith outcomes.now place line.now }
+    ensures { IsTrue result ↔ IsDealtWith outcomes.now place line.now }
 {
     match &line.command {
         Command::Carry { .. } | Command::Announce { .. } => true,
@@ -132,7 +135,7 @@ fn is_dealt_with(outcomes: &[Option<Outcome>], place: usize, line: &Line<'_>) ->
 
 /// Whether each line has an outcome that does not carry or announce.
 fn are_all_done(outcomes: &[Option<Outcome>], lines: &[Line<'_>]) -> bool
-    ensures { IsTrue result → AreAllDone lines.now outcomes.now }
+    ensures { IsTrue result ↔ AreAllDone lines.now outcomes.now }
 {
     for (place, line) in lines.iter().enumerate() {
         if !is_dealt_with(outcomes, place, line) {
@@ -147,6 +150,7 @@ impl Outcomes {
     pub fn new(alloc: Global, lines: usize) -> Result<Outcomes, Fault>
         ensures length { IfOk result (λ o. length o ≡ lines) }
         ensures none { IfOk result (λ o. o ≡ replicate lines None) }
+        ensures err { IfErr result (λ e. e ≡ Fault.OutOfMemory) }
     {
         let Ok(mut by_place) = Vec::with_capacity(alloc, lines) else {
             return Err(Fault::OutOfMemory);
@@ -161,7 +165,8 @@ impl Outcomes {
 
     /// No outcome yet, and room for that of so many lines; `OutOfMemory` where it was refused.
     pub fn with_room(alloc: Global, lines: usize) -> Result<Outcomes, Fault>
-        ensures { IfOk result (λ o. o ≡ []) }
+        ensures none { IfOk result (λ o. o ≡ []) }
+        ensures err { IfErr result (λ e. e ≡ Fault.OutOfMemory) }
     {
         match Vec::with_capacity(alloc, lines) {
             Ok(by_place) => Ok(Outcomes { by_place }),
@@ -171,7 +176,8 @@ impl Outcomes {
 
     /// Notes how the next line came out; `OutOfMemory` where a growth was refused.
     pub fn add(&mut self, outcome: Outcome) -> Result<(), Fault>
-        ensures { OnOk result (self.new ≡ self.old ++ Some outcome ∷ []) }
+        ensures added { OnOk result (self.new ≡ self.old ++ Some outcome ∷ []) }
+        ensures err { IfErr result (λ e. e ≡ Fault.OutOfMemory) }
     {
         match self.by_place.push(Some(outcome)) {
             Ok(()) => Ok(()),
@@ -202,7 +208,7 @@ impl Outcomes {
 
     /// Whether each line of the script has an outcome that does not carry or announce.
     pub fn are_of_all(&self, lines: &[Line<'_>]) -> bool
-        ensures { IsTrue result → AreAllDone lines.now self.now }
+        ensures { IsTrue result ↔ AreAllDone lines.now self.now }
     {
         are_all_done(self.by_place.as_slice(), lines)
     }
@@ -215,7 +221,9 @@ impl Outcomes {
         catalogue: &Catalogue,
         lines: &[Line<'_>],
     ) -> Result<(), Fault>
-        ensures { OnOk result (text.new ≡ text.old ++ told_text catalogue.now lines.now self.now) }
+        ensures told { OnOk result (text.new
+            ≡ text.old ++ told_text catalogue.now lines.now self.now) }
+        ensures err { IfErr result (λ e. e ≡ Fault.OutOfMemory) }
     {
         print_all(text, catalogue, self.by_place.as_slice(), lines)
     }

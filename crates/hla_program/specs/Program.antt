@@ -16,7 +16,7 @@ use Rattle.hla_transcript.specs.declared.listing.ListFault.TheVariants as unlist
 use Rattle.hla_script.specs.declared.player.PlayFault.{PlayFault}
 use Rattle.hla_script.specs.declared.player.PlayFault.TheVariants as unplayed
 use Rattle.hla_outcomes.specs.Joining.{script_joins}
-use Rattle.hla_run.specs.Recorded.{IsRunRecorded}
+use Rattle.hla_run.specs.Accounted.{IsRunRecorded}
 use Rattle.hla_outcomes.specs.Running.{IsRunFrom, IsSeen, StopsRun}
 use Rattle.hla_outcomes.specs.declared.fault.RunFault.{RunFault}
 use Rattle.hla_outcomes.specs.declared.fault.RunFault.TheVariants as unran

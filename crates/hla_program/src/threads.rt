@@ -5,7 +5,7 @@ ghost use Rattle.hla_base.specs.Limits.{ledger_parts};
 ghost use Rattle.hla_transcript.specs.Watching.{stream_of};
 ghost use Rattle.hla_checker.specs.Faults.{IsWholeRun};
 ghost use Rattle.hla_outcomes.specs.Joining.{script_joins};
-ghost use Rattle.hla_run.specs.Recorded.{IsRunRecorded};
+ghost use Rattle.hla_run.specs.Accounted.{IsRunRecorded};
 ghost use Rattle.hla_outcomes.specs.Running.{IsRunFrom, IsSeen, StopsRun, is_unwritten_run};
 ghost use Rattle.hla_program.specs.Program.{EndsJudging, EndsRunning};
 ghost use Rattle.hla_program.specs.declared.finding.Finding.TheVariants as found;

@@ -1,9 +1,9 @@
 -- What a federate does is answered by records of its own, in turn.
-use Rattle.std.proofs.Common.{◌≡◌, ℕ, suc, ◌<◌, ◌+◌, List, [], ◌∷◌, ◌++◌, true, Option, None, Some, Result, Ok, ◌⊎◌, inl, inr, refl, sym, ap, subst, ◌∙◌, arith, below_more}
+use Rattle.std.proofs.Common.{◌≡◌, ℕ, suc, ◌<◌, ◌+◌, List, [], ◌∷◌, ◌++◌, length, true, Option, None, Some, Result, Ok, ◌⊎◌, inl, inr, refl, sym, ap, subst, ◌∙◌, arith, below_more, length-append}
 use Rattle.std.specs.Prelude.{slice_get}
 use Rattle.std.specs.List.{Contains}
 use Rattle.std.proofs.lemmas.List.{append-nil, append_assoc}
-use Rattle.std.proofs.lemmas.List.Elements.{All-push, Contains-append_left, Contains-push}
+use Rattle.std.proofs.lemmas.List.Elements.{All-push, Contains-append_left, Contains-append_right, Contains-push}
 use Rattle.hla_base.specs.declared.fault.Fault.{Fault}
 use Rattle.hla_catalogue.specs.CatalogueValue.{CatalogueValue}
 use Rattle.hla_commands.specs.declared.lines.Call.{Call}
@@ -26,7 +26,7 @@ use Rattle.hla_players.specs.declared.player.Deed.TheVariants as deed
 use Rattle.hla_players.specs.declared.player.Player.{Player}
 use Rattle.hla_players.proofs.DeedLemmas.{answer_told}
 use Rattle.hla_outcomes.specs.declared.outcomes.LineOutcome.{LineOutcome}
-use Rattle.hla_run.specs.Recorded.{act_of_call, AddsAct, AddsCall, AddsTicks, AreAnsweredInTurn, AreEmptyTicks, ArePlacesBelow, ArePlacesRising, AreSpent, AreToldBelow, IsAnswerTo, IsCallAt, IsRecordOf, IsToldTo, IsTranscriptIn, IsUnmade}
+use Rattle.hla_run.specs.Recorded.{act_of_call, AddsAct, AddsCall, AddsTicks, AreAnsweredInTurn, AreEmptyTicks, ArePlacesBelow, ArePlacesRising, AreSpent, AreToldBelow, GivesUpLast, HasExtended, IsAnswerTo, IsCallAt, IsCallRecorded, IsRecordOf, IsToldTo, IsTranscriptIn, IsUnmade}
 use Rattle.hla_run.specs.declared.life.Life.{Life}
 use Rattle.hla_run.proofs.RecordLemmas.{unmade_in}
 
@@ -41,16 +41,16 @@ module _ (c : CatalogueValue) (lines : List Line) (all wider : List Record) (exe
     h.2,
     h.3,
     elim h.4 [
-      | inl made ↦ inl (made.0, made.1 ++ more, ap (λ (rs : List Record). rs ++ more) made.2 ∙ append_assoc h.1 (made.0 ∷ made.1) more, made.3, again made.1 made.4)
+      | inl made ↦ inl (made.0, made.1 ++ more, ap (λ (rs : List Record). rs ++ more) made.2 ∙ append_assoc h.1 (made.0 ∷ made.1) more, made.3, made.4, again made.1 made.5)
       | inr none ↦ inr (none.0 ++ more, ap (λ (rs : List Record). rs ++ more) none.1 ∙ append_assoc h.1 none.0 more, unmade_in c wider all execution f h.0 u.outcome within none.2, again none.0 none.3)
     ],
   )
 
   module _ (spent : List Record) (is_spent : AreSpent c execution f call spent) where
-    turn_answered : (r : Record) (records : List Record) (told : List LineOutcome) → IsAnswerTo c execution f call (answer_given t.outcome) r → AreAnsweredInTurn c lines all execution f name records told
+    turn_answered : (r : Record) (records : List Record) (told : List LineOutcome) → IsAnswerTo c execution f call (answer_given t.outcome) r → GivesUpLast c call t.outcome spent → AreAnsweredInTurn c lines all execution f name records told
         → AreAnsweredInTurn c lines wider execution f name (records ++ (spent ++ r ∷ [])) (told ++ t ∷ [])
-    turn_answered r records [] own h = (call, spent, at, is_spent, inl (r, [], ap (λ (rs : List Record). rs ++ (spent ++ r ∷ [])) h, own, refl))
-    turn_answered r records (u ∷ us) own h = told_before u us records (spent ++ r ∷ []) (λ rest before. turn_answered r rest us own before) h
+    turn_answered r records [] own last h = (call, spent, at, is_spent, inl (r, [], ap (λ (rs : List Record). rs ++ (spent ++ r ∷ [])) h, own, last, refl))
+    turn_answered r records (u ∷ us) own last h = told_before u us records (spent ++ r ∷ []) (λ rest before. turn_answered r rest us own last before) h
 
     turn_unmade : (records : List Record) (told : List LineOutcome) → IsUnmade c wider execution f call t.outcome → AreAnsweredInTurn c lines all execution f name records told
         → AreAnsweredInTurn c lines wider execution f name (records ++ spent) (told ++ t ∷ [])
@@ -63,7 +63,7 @@ pub turn_added : (c : CatalogueValue) (lines : List Line) (execution : List ℕ)
 turn_added c lines execution f name old new told t call within before at adds =
     let InTurn : List Record → Type 0 = λ rs. AreAnsweredInTurn c lines new.transcript execution f name rs (told ++ t ∷ []) in
     elim adds.2 [
-      | inl made ↦ subst InTurn (sym made.1) (turn_answered c lines old.transcript new.transcript execution f name within t call at adds.0 adds.1 made.0 old.transcript told made.2 before)
+      | inl made ↦ subst InTurn (sym made.1) (turn_answered c lines old.transcript new.transcript execution f name within t call at adds.0 adds.1 made.0 old.transcript told made.2 made.3 before)
       | inr none ↦ subst InTurn (sym none.0) (turn_unmade c lines old.transcript new.transcript execution f name within t call at adds.0 adds.1 old.transcript told none.1 before)
     ]
 
@@ -92,24 +92,30 @@ added_behind old mid new execution a out spent is adds = elim adds [
 ]
 
 -- one tick with nothing more is spent
-pub spent_more : (old mid new : Caller) (execution : List ℕ) (f : ℕ) (spent : List Record) → AreEmptyTicks execution f spent → mid.transcript ≡ old.transcript ++ spent → AddsAct execution (act.Step (step.Tick f)) (outcome.Done (answer.Ticked None)) [] mid new
-    → (more : List Record) × AreEmptyTicks execution f more × (new.transcript ≡ old.transcript ++ more)
-spent_more old mid new execution f spent empty is adds = elim adds [
-  | inl own ↦ (spent ++ own.0 ∷ [], All-push (IsRecordOf execution (act.Step (step.Tick f)) (Ok (answer.Ticked None))) spent own.0 empty own.2, own.1 ∙ ap (λ (rs : List Record). rs ++ own.0 ∷ []) is ∙ append_assoc old.transcript spent (own.0 ∷ []))
-  | inr none ↦ (spent, empty, none.0 ∙ append-nil mid.transcript ∙ is)
+pub spent_more : (old mid new : Caller) (execution : List ℕ) (f n : ℕ) (spent : List Record) → AreEmptyTicks execution f spent → length spent ≡ n → mid.transcript ≡ old.transcript ++ spent
+    → AddsAct execution (act.Step (step.Tick f)) (outcome.Done (answer.Ticked None)) [] mid new → (more : List Record) × AreEmptyTicks execution f more × (length more ≡ n + 1) × (new.transcript ≡ old.transcript ++ more)
+spent_more old mid new execution f n spent empty many is adds = elim adds [
+  | inl own ↦
+      let last = length-append spent (own.0 ∷ []) in (
+        spent ++ own.0 ∷ [],
+        All-push (IsRecordOf execution (act.Step (step.Tick f)) (Ok (answer.Ticked None))) spent own.0 empty own.2,
+        omega (arith, last, many),
+        own.1 ∙ ap (λ (rs : List Record). rs ++ own.0 ∷ []) is ∙ append_assoc old.transcript spent (own.0 ∷ []),
+      )
+  | inr none ↦ let clash : outcome.Done (answer.Ticked None) ≡ outcome.Refused none.1.0 = none.1.1 in absurd (cc)
 ]
 
 pub added_call_of : (c : CatalogueValue) (e execution : List ℕ) (f g : ℕ) (call : Call) (out : Outcome) (old new : Caller) → e ≡ execution → f ≡ g → AddsCall c e f call out old new → AddsCall c execution g call out old new
 added_call_of c e execution f g call out old new same number h =
     subst (λ (n : ℕ). AddsCall c execution n call out old new) number (subst (λ (x : List ℕ). AddsCall c x f call out old new) same h)
 
-added_asked : (c : CatalogueValue) (execution : List ℕ) (f : ℕ) (call : Call) (asked : Option Service) (out : Outcome) (spent : List Record) (old new : Caller) → service_of c call ≡ Ok asked → AreSpent c execution f call spent → AddsAct execution (act_of_call asked f) out spent old new
-    → AddsCall c execution f call out old new
-added_asked c execution f call asked out spent old new asks is_spent adds = (
+added_asked : (c : CatalogueValue) (execution : List ℕ) (f : ℕ) (call : Call) (asked : Option Service) (out : Outcome) (spent : List Record) (old new : Caller) → service_of c call ≡ Ok asked → AreSpent c execution f call spent → GivesUpLast c call out spent
+    → AddsAct execution (act_of_call asked f) out spent old new → AddsCall c execution f call out old new
+added_asked c execution f call asked out spent old new asks is_spent last adds = (
   spent,
   is_spent,
   elim adds [
-    | inl own ↦ inl (own.0, own.1, (asked, asks, own.2))
+    | inl own ↦ inl (own.0, own.1, (asked, asks, own.2), last)
     | inr none ↦ inr (none.0, (none.1.0, none.1.1, elim none.1.2 [ inl full ↦ inr (inl full) | inr memory ↦ inr (inr (inl memory)) ]))
   ],
 )
@@ -118,25 +124,36 @@ pub nothing_spent : (c : CatalogueValue) (execution : List ℕ) (f : ℕ) (call 
 nothing_spent c execution f call = (λ k d below. absurd (omega (arith, below)), inl refl)
 
 pub added_ticks : (c : CatalogueValue) (execution : List ℕ) (f : ℕ) (call : Call) (out : Outcome) (old new : Caller) → service_of c call ≡ Ok None → AddsTicks execution f out old new → AddsCall c execution f call out old new
-added_ticks c execution f call out old new asks adds = added_asked c execution f call None out adds.0 old new asks (adds.1, inr asks) adds.2
+added_ticks c execution f call out old new asks adds = added_asked c execution f call None out adds.0 old new asks (adds.1, inr (asks, adds.2)) (λ ticks. adds.3) adds.4
 
 module _ {L B P F : Type 0} where
-  pub added_deed : (c : CatalogueValue) (call : Call) (m : FederateCaller) (d : Deed) (out : Outcome) (p : Player L B P F) → IsDeedOf c call d → DoesDeed m d out p → AddsCall c m.execution m.federate call out m.caller (caller_of p)
-  added_deed c call m deed.Tick out p asks done = added_asked c m.execution m.federate call None out [] m.caller (caller_of p) asks (nothing_spent c m.execution m.federate call) (added_told m.caller (caller_of p) m.execution _ out done.0)
-  added_deed c call m (deed.Serve s) out p asks done =
-      added_asked c m.execution m.federate call (Some s) out [] m.caller (caller_of p) asks (nothing_spent c m.execution m.federate call) (added_told m.caller (caller_of p) m.execution _ out done.0)
-  added_deed c call m (deed.Refused e) out p asks done = (
+  pub added_deed : (c : CatalogueValue) (call : Call) (m : FederateCaller) (d : Deed) (out : Outcome) (p : Player L B P F) → (d ≡ deed.Tick → ⊥) → IsDeedOf c call d → DoesDeed m d out p → AddsCall c m.execution m.federate call out m.caller (caller_of p)
+  added_deed c call m deed.Tick out p other asks done = absurd (other refl)
+  added_deed c call m (deed.Serve s) out p other asks done =
+      let last : GivesUpLast c call out [] = λ ticks. (let clash : Ok None ≡ Ok (Some s) = sym ticks ∙ asks in absurd (cc)) in
+      added_asked c m.execution m.federate call (Some s) out [] m.caller (caller_of p) asks (nothing_spent c m.execution m.federate call) last (added_told m.caller (caller_of p) m.execution _ out done.0)
+  added_deed c call m (deed.Refused e) out p other asks done = (
     [],
     nothing_spent c m.execution m.federate call,
     inr (ap (λ (x : Caller). x.transcript) done.0.1 ∙ sym (append-nil m.caller.transcript), (e, done.0.0, elim asks [ inl unknown ↦ inl unknown | inr memory ↦ inr (inr (inl memory)) ])),
   )
 
+-- what a call has added answers it, among all that its caller has then
+pub added_recorded : (c : CatalogueValue) (execution : List ℕ) (f : ℕ) (call : Call) (out : Outcome) (old new : Caller) → AddsCall c execution f call out old new → HasExtended old new × IsCallRecorded c new.transcript execution f call out
+added_recorded c execution f call out old new adds = elim adds.2 [
+  | inl made ↦
+      let r : Record = made.0 in
+      let there = subst (λ (rs : List Record). Contains rs r) (sym made.1) (Contains-append_right old.transcript (adds.0 ++ r ∷ []) r (Contains-push adds.0 r)) in
+      ((adds.0 ++ r ∷ [], made.1), inl (record { asked = made.2.0; asks = made.2.1; answered = record { found = r; there = there; inside = made.2.2.0; acts = made.2.2.1; answers = made.2.2.2 } }))
+  | inr none ↦ ((adds.0, none.0), inr none.1)
+]
+
 -- ---- lines one after another
-rising_more : (told : List LineOutcome) (t : LineOutcome) → ArePlacesRising told → ArePlacesBelow t.place told → ArePlacesRising (told ++ t ∷ [])
+pub rising_more : (told : List LineOutcome) (t : LineOutcome) → ArePlacesRising told → ArePlacesBelow t.place told → ArePlacesRising (told ++ t ∷ [])
 rising_more [] t rising below = (λ k d within. absurd (omega (arith, within)), tt)
 rising_more (u ∷ us) t rising below = (All-push (λ (v : LineOutcome). u.place < v.place) us t rising.0 (below 0 u (omega arith)), rising_more us t rising.1 (λ k d within. below (suc k) d (omega (arith, within))))
 
-below_next : (place : ℕ) (told : List LineOutcome) → ArePlacesBelow place told → ArePlacesBelow (place + 1) told
+pub below_next : (place : ℕ) (told : List LineOutcome) → ArePlacesBelow place told → ArePlacesBelow (place + 1) told
 below_next place told below = λ k d within. omega (arith, below k d within)
 
 told_next : (lines : List Line) (name : List ℕ) (place : ℕ) (told : List LineOutcome) → AreToldBelow lines name place told → ((l : Line) (call : Call) → slice_get lines place ≡ Some l → l.command ≡ command.Federate name call → (t : LineOutcome) × Contains told t × (t.place ≡ place))

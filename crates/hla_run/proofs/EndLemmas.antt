@@ -10,7 +10,8 @@ use Rattle.hla_fed_file.specs.Grammar.{Describes}
 use Rattle.hla_machine.specs.declared.step.Outcome.{Outcome}
 use Rattle.hla_machine.specs.declared.step.Record.{Record}
 use Rattle.hla_callers.specs.Callers.{Caller, Leaver}
-use Rattle.hla_callers.specs.Close.{Agrees, AllAgree}
+use Rattle.hla_callers.specs.Close.{AllAgree}
+use Rattle.hla_history.specs.Closing.{records_by}
 use Rattle.hla_outcomes.specs.Running.{AreAllDone, AreTold, IsRunFrom, StopsRun, StopsTelling, StopsText, told_text}
 use Rattle.hla_outcomes.specs.declared.fault.RunFault.{RunFault}
 use Rattle.hla_outcomes.specs.declared.fault.RunFault.TheVariants as stop
@@ -58,11 +59,11 @@ stops_told c lines outcomes old new stop.Monitor each done stops = record { outc
 filtered_in : (p : Record → Bool) (rs : List Record) (r : Record) → Contains (filter p rs) r → Contains rs r
 filtered_in p rs r there = All-contains (Contains rs) (filter p rs) r (All-filter p (Contains rs) rs (All-contains_itself rs)) there
 
-pub agreed_in : (history : List Record) (c : Caller) → Agrees history c → IsTranscriptIn history c.transcript
-agreed_in history c agrees = λ r there. filtered_in _ history r (subst (λ (rs : List Record). Contains rs r) agrees there)
+pub actor_in : (history : List Record) (actor : ℕ) (transcript : List Record) → transcript ≡ records_by actor history → IsTranscriptIn history transcript
+actor_in history actor transcript agrees = λ r there. filtered_in _ history r (subst (λ (rs : List Record). Contains rs r) agrees there)
 
 pub agreed_within : (history : List Record) (lefts : List Leaver) (own : Caller) → AllAgree history lefts own → AreTranscriptsIn history lefts
-agreed_within history lefts own agree = λ k d below. agreed_in history (get_or lefts k d).caller (agree.0 k (get_or lefts k d) below (slice_get-get_or lefts k d below))
+agreed_within history lefts own agree = λ k d below. actor_in history (get_or lefts k d).caller.number (get_or lefts k d).caller.transcript (agree.0 k (get_or lefts k d) below (slice_get-get_or lefts k d below))
 
 pub agree_all : (history : List Record) (lefts : List Leaver) (own : Caller) → AllAgree history lefts own → AgreeAll history lefts
 agree_all history lefts own agree = λ k d below. agree.0 k (get_or lefts k d) below (slice_get-get_or lefts k d below)

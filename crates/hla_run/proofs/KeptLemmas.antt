@@ -35,15 +35,10 @@ other_call lines place m at other l name call found is = other name call (ap (λ
 
 pub turn_kept : (c : CatalogueValue) (lines : List Line) (history : List Record) (old new : List (Option Outcome)) (name : List ℕ) → KeepsCalls lines old new → IsNameInTurn c lines history old name → IsNameInTurn c lines history new name
 turn_kept c lines history old new name keeps h = record {
-  execution = h.execution;
-  federate = h.federate;
   caller = h.caller;
   told = h.told;
-  joined = h.joined;
-  agrees = h.agrees;
-  rising = h.rising;
+  own = h.own;
   tells = λ place l call o at is told. h.tells place l call o at is (keeps place l name call o at is told);
-  in_turn = h.in_turn;
 }
 
 -- ---- lives of the same names

@@ -1,9 +1,8 @@
 -- What is told of the lines of federates is what records answer.
-use Rattle.std.proofs.Common.{◌≡◌, ℕ, zero, suc, ◌<◌, List, [], ◌∷◌, ◌++◌, length, get_or, replicate, Bool, true, Option, None, Some, Result, Ok, Err, ◌⊎◌, inl, inr, refl, sym, ap, subst, ◌∙◌, arith}
-use Rattle.std.specs.Prelude.{slice_get, slice_index_or, slice_set, IfOk, OnOk}
-use Rattle.std.specs.Io.KnownBytes.{Appends}
+use Rattle.std.proofs.Common.{◌≡◌, ℕ, zero, suc, ◌<◌, List, [], ◌∷◌, ◌++◌, length, get_or, replicate, Bool, true, Option, None, Some, Result, Ok, ◌⊎◌, inl, inr, refl, sym, ap, subst, ◌∙◌, arith}
+use Rattle.std.specs.Prelude.{slice_get, slice_index_or, slice_set}
 use Rattle.std.specs.List.{All, Contains}
-use Rattle.std.proofs.lemmas.List.{append-nil, append_assoc}
+use Rattle.std.proofs.lemmas.List.{append-nil}
 use Rattle.std.proofs.lemmas.List.Elements.{All-contains, All-push, Contains-append_left, Contains-push, Contains-get_or}
 use Rattle.std.proofs.lemmas.Option.{slice_get_read}
 use Rattle.hla_base.specs.declared.fault.Fault.{Fault}
@@ -13,9 +12,6 @@ use Rattle.hla_commands.specs.declared.lines.Call.{Call}
 use Rattle.hla_commands.specs.declared.lines.Command.{Command}
 use Rattle.hla_commands.specs.declared.lines.Command.TheVariants as command
 use Rattle.hla_commands.specs.declared.lines.Line.{Line}
-use Rattle.hla_commands.specs.Script.{script_of}
-use Rattle.hla_fed_file.specs.Grammar.{Describes}
-use Rattle.hla_machine.specs.declared.service.Service.{Service}
 use Rattle.hla_machine.specs.declared.service.Service.TheVariants as service
 use Rattle.hla_machine.specs.declared.step.Act.{Act}
 use Rattle.hla_machine.specs.declared.step.Act.TheVariants as act
@@ -25,22 +21,16 @@ use Rattle.hla_machine.specs.declared.step.Outcome.{Outcome}
 use Rattle.hla_machine.specs.declared.step.Outcome.TheVariants as outcome
 use Rattle.hla_machine.specs.declared.step.Record.{Record}
 use Rattle.hla_machine.specs.declared.step.Step.TheVariants as step
-use Rattle.hla_requests.specs.Requests.{service_of}
-use Rattle.hla_callers.specs.Callers.{Caller, FederateCaller, Leaver, HasActed, HasAnswered, HasNotActed, answer_given, nothing, said}
-use Rattle.hla_callers.specs.Close.{Agrees, AllAgree}
-use Rattle.hla_players.specs.Deeds.{HasDone, HasTold, DoesDeed, IsDeedOf, IsGoneBy, caller_of}
-use Rattle.hla_run.specs.Recorded.{act_of_call, AreAnsweredInTurn, HasAnswerOf, HasJoined, IsOfficeRecorded, IsJoiningRecorded, IsActRecorded, IsCallRecorded, IsNamedCallRecorded, IsResignedBy, IsUnmade, IsLineRecorded, IsTellingRecorded, AreTellingsRecorded, IsOwnTelling, AreOwnTellings, AreOutcomesRecorded, HasExtended, IsTranscriptIn, IsCallAt, IsFresh, AreFresh, AreJoined, IsLifeOf, IsLifeRecorded, IsPlayerAs, NeedsNoRecord, KeepsRecorded, KeepsOffice, IsOfficeLine, LeavesBehind, GathersRecorded, RecordsTold, IsToldRecorded, IsRunRecorded}
-use Rattle.hla_outcomes.specs.Running.{AreAllDone, told_text, with_line_noted, with_lines_noted}
-use Rattle.hla_outcomes.specs.declared.fault.RunFault.{RunFault}
+use Rattle.hla_callers.specs.Callers.{Caller, FederateCaller, Leaver, HasActed, answer_given}
+use Rattle.hla_callers.specs.Close.{Agrees}
+use Rattle.hla_players.specs.Deeds.{HasDone, HasTold, DoesDeed, IsGoneBy, caller_of}
+use Rattle.hla_run.specs.Recorded.{act_of_call, AreAnsweredInTurn, HasAnswerOf, HasJoined, IsOfficeRecorded, IsJoiningRecorded, IsActRecorded, IsCallRecorded, IsNamedCallRecorded, IsResignedBy, IsUnmade, IsLineRecorded, IsTellingRecorded, AreTellingsRecorded, IsOwnTelling, AreOwnTellings, AreOutcomesRecorded, HasExtended, IsTranscriptIn, IsCallAt, IsFresh, AreFresh, AreJoined, IsLifeOf, IsLifeRecorded, IsPlayerAs, NeedsNoRecord, KeepsRecorded, KeepsOffice, IsOfficeLine, LeavesBehind, LeavesPair, GathersRecorded}
+use Rattle.hla_outcomes.specs.Running.{with_line_noted, with_lines_noted}
 use Rattle.hla_run.specs.declared.life.Life.{Life}
 use Rattle.hla_outcomes.specs.declared.outcomes.LineOutcome.{LineOutcome}
 use Rattle.hla_players.specs.declared.player.Deed.{Deed}
-use Rattle.hla_players.specs.declared.player.Deed.TheVariants as deed
 use Rattle.hla_players.specs.declared.player.Player.{Player}
 use Rattle.hla_players.specs.declared.player.Player.TheVariants as player
-use Rattle.hla_players.specs.declared.watching.Ran.{Ran}
-use Rattle.hla_players.proofs.DeedLemmas.{answer_told}
-use Rattle.hla_run.proofs.EndLemmas.{agree_all, agreed_in, agreed_within}
 
 -- ---- among more records
 pub answer_in : (history records : List Record) (execution : List ℕ) (a : Act) (given : Result Answer Fault) → IsTranscriptIn history records → HasAnswerOf records execution a given → HasAnswerOf history execution a given
@@ -104,10 +94,6 @@ grown_within old new grown = λ r there. subst (λ (rs : List Record). Contains 
 
 pub grown_same : (old new : Caller) → new ≡ old → HasExtended old new
 grown_same old new same = ([], ap (λ (x : Caller). x.transcript) same ∙ sym (append-nil old.transcript))
-
-pub grown_twice : (old mid new : Caller) → HasExtended old mid → HasExtended mid new → HasExtended old new
-grown_twice old mid new first second =
-    (first.0 ++ second.0, second.1 ∙ ap (λ (rs : List Record). rs ++ second.0) first.1 ∙ append_assoc old.transcript first.0 second.0)
 
 -- ---- other lines
 office_in : (history records : List Record) (a : Act) (out : Outcome) → IsTranscriptIn history records → IsOfficeRecorded records a out → IsOfficeRecorded history a out
@@ -177,42 +163,13 @@ told_recorded old new execution a out told = elim told [
   | inr none ↦ (grown_same old new none.2.1, inr (none.0, none.1, none.2.0))
 ]
 
-pub asked_recorded : (c : CatalogueValue) (records : List Record) (execution : List ℕ) (f : ℕ) (call : Call) (asked : Option Service) (out : Outcome) → service_of c call ≡ Ok asked → IsActRecorded records execution (act_of_call asked f) out
-    → IsCallRecorded c records execution f call out
-asked_recorded c records execution f call asked out asks h = elim h [
-  | inl answered ↦ inl (record { asked = asked; asks = asks; answered = answered })
-  | inr none ↦ inr (none.0, none.1, elim none.2 [ inl full ↦ inr (inl full) | inr memory ↦ inr (inr (inl memory)) ])
-]
-
-pub ticked_recorded : (m new : FederateCaller) (given : Result Answer Fault) (out : Outcome) → HasAnswered m.caller m.execution (act.Step (step.Tick m.federate)) given new.caller → answer_given out ≡ given
-    → HasExtended m.caller new.caller × IsActRecorded new.caller.transcript m.execution (act.Step (step.Tick m.federate)) out
-ticked_recorded m new given out answered told = told_recorded m.caller new.caller m.execution (act.Step (step.Tick m.federate)) out (answer_told m.caller new.caller m.execution (act.Step (step.Tick m.federate)) given out answered told)
-
--- the same of this execution and this federate
-pub act_of : (records : List Record) (e execution : List ℕ) (f g : ℕ) (out : Outcome) → e ≡ execution → f ≡ g → IsActRecorded records e (act.Step (step.Tick f)) out → IsActRecorded records execution (act.Step (step.Tick g)) out
-act_of records e execution f g out same number h = subst (λ (n : ℕ). IsActRecorded records execution (act.Step (step.Tick n)) out) number (subst (λ (x : List ℕ). IsActRecorded records x (act.Step (step.Tick f)) out) same h)
-
 pub done_recorded : (records : List Record) (execution : List ℕ) (a : Act) (out : Outcome) (given : Answer) → out ≡ outcome.Done given → IsActRecorded records execution a out → HasAnswerOf records execution a (Ok given)
 done_recorded records execution a out given is h = elim h [
   | inl answered ↦ subst (λ (o : Outcome). HasAnswerOf records execution a (answer_given o)) is answered
   | inr none ↦ let clash : outcome.Done given ≡ outcome.Refused none.0 = sym is ∙ none.1 in cc
 ]
 
-pub call_of : (c : CatalogueValue) (records : List Record) (e execution : List ℕ) (f g : ℕ) (call : Call) (out : Outcome) → e ≡ execution → f ≡ g → IsCallRecorded c records e f call out → IsCallRecorded c records execution g call out
-call_of c records e execution f g call out same number h = subst (λ (n : ℕ). IsCallRecorded c records execution n call out) number (subst (λ (x : List ℕ). IsCallRecorded c records x f call out) same h)
-
 module _ {L B P F : Type 0} where
-  pub deed_recorded : (c : CatalogueValue) (call : Call) (m : FederateCaller) (d : Deed) (out : Outcome) (p : Player L B P F) → IsDeedOf c call d → DoesDeed m d out p
-      → HasExtended m.caller (caller_of p) × IsCallRecorded c (caller_of p).transcript m.execution m.federate call out
-  deed_recorded c call m deed.Tick out p asks done =
-      let both = told_recorded m.caller (caller_of p) m.execution _ out done.0 in
-      (both.0, asked_recorded c (caller_of p).transcript m.execution m.federate call None out asks both.1)
-  deed_recorded c call m (deed.Serve s) out p asks done =
-      let both = told_recorded m.caller (caller_of p) m.execution _ out done.0 in
-      (both.0, asked_recorded c (caller_of p).transcript m.execution m.federate call (Some s) out asks both.1)
-  deed_recorded c call m (deed.Refused e) out p asks done =
-      (grown_same m.caller (caller_of p) done.0.1, inr (e, done.0.0, elim asks [ inl unknown ↦ inl unknown | inr memory ↦ inr (inr (inl memory)) ]))
-
   -- a federate stays the same while it is joined, and is gone once it has resigned
   pub player_stays : (execution : List ℕ) (f : ℕ) (m : FederateCaller) (what : Deed) (out : Outcome) (p : Player L B P F) → DoesDeed m what out p → IsGoneBy what out p → (m.execution ≡ execution) × (m.federate ≡ f) → IsPlayerAs execution f p
   player_stays execution f m what out (player.Joined n) done gone was = (done.1.1 ∙ was.0, done.1.0 ∙ was.1)
@@ -223,27 +180,6 @@ module _ {L B P F : Type 0} where
       let own : IsResignedBy l.caller.transcript m.execution m.federate = (gone.0, answered) in
       subst (λ (n : ℕ). IsResignedBy l.caller.transcript execution n) was.1 (subst (λ (x : List ℕ). IsResignedBy l.caller.transcript x m.federate) was.0 own)
 
--- ---- what the infrastructure did itself
-pub destroyed_line : (old new : Caller) (l : Command) (execution : List ℕ) (given : Result (Unit {0}) Fault) (out : Outcome) → l ≡ command.Destroy → HasAnswered old execution act.Destroy (said nothing given) new → answer_given out ≡ said nothing given
-    → HasExtended old new × IsOfficeLine new l out
-destroyed_line old new l execution given out is answered told =
-    let both = told_recorded old new execution act.Destroy out (answer_told old new execution act.Destroy (said nothing given) out answered told) in
-    (both.0, λ c stranger. subst (λ (x : Command). IsLineRecorded c new.transcript stranger x out) (sym is) (execution, both.1))
-
-pub created_line : (old new : Caller) (l : Command) (execution : List ℕ) (read : Option CatalogueValue) (given : Result (Unit {0}) Fault) (out : Outcome) → l ≡ command.Create → HasAnswered old execution (act.Create read) (said nothing given) new
-    → answer_given out ≡ said nothing given → HasExtended old new × IsOfficeLine new l out
-created_line old new l execution read given out is answered told =
-    let both = told_recorded old new execution (act.Create read) out (answer_told old new execution (act.Create read) (said nothing given) out answered told) in
-    (both.0, λ c stranger. subst (λ (x : Command). IsLineRecorded c new.transcript stranger x out) (sym is) (read, (execution, both.1)))
-
-pub refused_joining : (old new : Caller) (execution name : List ℕ) (e : Fault) (X : Type 0) → (HasActed old execution (act.Step (step.Join name)) (outcome.Refused e) new ⊎ HasNotActed old e new) ⊎ ((e ≡ fault.LimitReached) × X × (new ≡ old))
-    → IsJoiningRecorded new.transcript name (outcome.Refused e)
-refused_joining old new execution name e X refused = elim refused [
-  | inl (inl acted) ↦ inl (execution, inl (acted_recorded old new execution (act.Step (step.Join name)) (outcome.Refused e) (Err e) refl acted))
-  | inl (inr none) ↦ inl (execution, inr (e, refl, none.0))
-  | inr limit ↦ inr (ap (λ (x : Fault). outcome.Refused x) limit.0)
-]
-
 -- ---- outcomes by place
 pub noted_cases : (xs : List (Option Outcome)) (i j : ℕ) (v o : Outcome) → slice_index_or (slice_set xs i (Some v)) j None ≡ Some o → (slice_index_or xs j None ≡ Some o) ⊎ ((i ≡ j) × (v ≡ o))
 noted_cases [] i j v o is = inl is
@@ -251,6 +187,16 @@ noted_cases (x ∷ xs) zero zero v o is = inr (refl, cc)
 noted_cases (x ∷ xs) zero (suc j) v o is = inl is
 noted_cases (x ∷ xs) (suc i) zero v o is = inl is
 noted_cases (x ∷ xs) (suc i) (suc j) v o is = elim (noted_cases xs i j v o is) [ inl before ↦ inl before | inr now ↦ inr (ap (λ n. suc n) now.0, now.1) ]
+
+pub noted_same : (xs : List (Option Outcome)) (i : ℕ) (v o : Outcome) → slice_index_or (slice_set xs i (Some v)) i None ≡ Some o → v ≡ o
+noted_same [] i v o is = absurd (cc)
+noted_same (x ∷ xs) zero v o is = cc
+noted_same (x ∷ xs) (suc i) v o is = noted_same xs i v o is
+
+pub noted_first : (t : LineOutcome) (place : ℕ) (o : Outcome) → t.place ≡ place → t.outcome ≡ o → t ≡ record { place = place; outcome = o }
+noted_first t place o at is =
+    let first : t ≡ record { place = place; outcome = t.outcome } = ap (λ (n : ℕ). let x : LineOutcome = record { place = n; outcome = t.outcome } in x) at in
+    first ∙ ap (λ (y : Outcome). let x : LineOutcome = record { place = place; outcome = y } in x) is
 
 abbrev pub untold : Option Outcome
 untold = None
@@ -313,11 +259,14 @@ left_of old mid new first second c one two own P all =
       subst P own (All-contains OfLeaver (old ++ first ∷ []) first some (Contains-push old first)),
     )
 
-pub left_behind : (old mid new : List Leaver) (first second : Leaver) (c : Caller) → mid ≡ old ++ first ∷ [] → new ≡ mid ++ second ∷ [] → first.caller ≡ c → LeavesBehind old c new
+left_behind : (old mid new : List Leaver) (first second : Leaver) (c : Caller) → mid ≡ old ++ first ∷ [] → new ≡ mid ++ second ∷ [] → first.caller ≡ c → LeavesBehind old c new
 left_behind old mid new first second c one two own = λ history. (
   left_of old mid new first second c one two own (λ (x : Caller). IsTranscriptIn history x.transcript),
   left_of old mid new first second c one two own (λ (x : Caller). Agrees history x),
 )
+
+pub pair_behind : (old new : List Leaver) (c : Caller) → LeavesPair old c new → LeavesBehind old c new
+pair_behind old new c pair = left_behind old (old ++ pair.0 ∷ []) new pair.0 pair.1 c refl pair.2 pair.3
 
 module _ {L B P F : Type 0} where
   pub gathered_more : (lives : List (Life L B P F)) (life : Life L B P F) (some all : List Leaver) (old mid new : List (Option Outcome)) → GathersRecorded lives some old mid → new ≡ with_lines_noted mid life.told.items
@@ -361,29 +310,3 @@ module _ {L B P F : Type 0} where
   pub joined_same : (records : List Record) (execution : List ℕ) (old new : Life L B P F) → IsLifeOf old new → HasJoined records execution old.name old.number → HasJoined records execution new.name new.number
   joined_same records execution old new same h =
       subst (λ (n : ℕ). HasJoined records execution new.name n) (sym same.1) (subst (λ (name : List ℕ). HasJoined records execution name old.number) (sym same.0) h)
-
--- ---- the end of a run
--- what was written of lines that all were done, where the transcripts of all agree with the history
-pub told_run : (result : Result Ran RunFault) (c : CatalogueValue) (lines : List Line) (outcomes : List (Option Outcome)) (lefts : List Leaver) (own : Caller) (old new : Option (List ℕ)) → length outcomes ≡ length lines → AreAllDone lines outcomes
-    → RecordsTold c lines outcomes lefts own → OnOk result (Appends old new (told_text c lines outcomes)) → IfOk result (λ r. AllAgree r.closed lefts own)
-    → IfOk result (λ r. IsToldRecorded r.closed c lines old new)
-told_run (Ok r) c lines outcomes lefts own old new each done recorded told agree =
-    (record { outcomes = outcomes; each = each; done = done; writes = told }, recorded r.closed (agreed_within r.closed lefts own agree) (agree_all r.closed lefts own agree) (agreed_in r.closed own agree.1))
-told_run (Err e) c lines outcomes lefts own old new each done recorded told agree = tt
-
-pub run_recorded : (result : Result Ran RunFault) (fed script : List ℕ) (c : CatalogueValue) (lines : List Line) (old new : Option (List ℕ)) → Describes fed c → script_of script ≡ Ok lines → IfOk result (λ r. IsToldRecorded r.closed c lines old new)
-    → IfOk result (λ r. IsRunRecorded r.closed fed script old new)
-run_recorded (Ok r) fed script c lines old new describes says told = (
-  record {
-    catalogue = c;
-    lines = lines;
-    outcomes = told.0.outcomes;
-    describes = describes;
-    says = says;
-    each = told.0.each;
-    done = told.0.done;
-    writes = told.0.writes;
-  },
-  told.1,
-)
-run_recorded (Err e) fed script c lines old new describes says told = tt

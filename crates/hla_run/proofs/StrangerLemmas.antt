@@ -8,7 +8,6 @@ use Rattle.std.proofs.lemmas.List.Elements.{All-contains, Contains-append_left, 
 use Rattle.std.proofs.lemmas.List.Folds.{list_any-append}
 use Rattle.hla_catalogue.specs.CatalogueValue.{CatalogueValue}
 use Rattle.hla_commands.specs.declared.lines.Command.{Command}
-use Rattle.hla_commands.specs.declared.lines.Command.TheVariants as command
 use Rattle.hla_commands.specs.declared.lines.Line.{Line}
 use Rattle.hla_machine.specs.declared.step.Answer.TheVariants as answer
 use Rattle.hla_machine.specs.declared.step.Outcome.{Outcome}
@@ -17,42 +16,40 @@ use Rattle.hla_machine.specs.declared.step.Record.{Record}
 use Rattle.hla_outcomes.specs.Running.{with_line_noted, with_lines_noted}
 use Rattle.hla_outcomes.specs.declared.outcomes.LineOutcome.{LineOutcome}
 use Rattle.hla_players.specs.Deeds.{caller_of}
-use Rattle.hla_run.specs.Recorded.{AreNotTold, AreOwnTellings, GathersCalls, HasEachLife, HasLifeOf, IsLifeRecorded, IsOwnTelling, IsStranger, KeepsJoinings, KeepsLives, has_life, is_stranger}
+use Rattle.hla_run.specs.Recorded.{AreNotTold, AreOwnTellings, GathersCalls, HasEachLife, HasLifeOf, IsLifeRecorded, IsOpeningLine, IsOwnTelling, IsStranger, KeepsOpenings, KeepsLives, has_life, is_stranger}
 use Rattle.hla_run.specs.declared.life.Life.{Life}
 use Rattle.hla_run.proofs.RecordLemmas.{noted_cases, same_line}
 
--- ---- lines that join
-pub joinings_same : (lines : List Line) (old mid new : List (Option Outcome)) → KeepsJoinings lines old mid → new ≡ mid → KeepsJoinings lines old new
-joinings_same lines old mid new before same = λ place l name o at is told. before place l name o at is (subst (λ (os : List (Option Outcome)). slice_index_or os place None ≡ Some o) same told)
+-- ---- lines that create and join
+pub openings_same : (lines : List Line) (old mid new : List (Option Outcome)) → KeepsOpenings lines old mid → new ≡ mid → KeepsOpenings lines old new
+openings_same lines old mid new before same = λ place l o at opens told. before place l o at opens (subst (λ (os : List (Option Outcome)). slice_index_or os place None ≡ Some o) same told)
 
-pub joinings_twice : (lines : List Line) (old mid new : List (Option Outcome)) → KeepsJoinings lines old mid → KeepsJoinings lines mid new → KeepsJoinings lines old new
-joinings_twice lines old mid new first second = λ place l name o at is told. first place l name o at is (second place l name o at is told)
+pub openings_twice : (lines : List Line) (old mid new : List (Option Outcome)) → KeepsOpenings lines old mid → KeepsOpenings lines mid new → KeepsOpenings lines old new
+openings_twice lines old mid new first second = λ place l o at opens told. first place l o at opens (second place l o at opens told)
 
--- what is told of a line that does not join
-pub joinings_noted : (lines : List Line) (old mid new : List (Option Outcome)) (t : LineOutcome) → KeepsJoinings lines old mid → new ≡ with_line_noted mid t
-    → ((l : Line) (name : List ℕ) → slice_get lines t.place ≡ Some l → l.command ≡ command.Join name → ⊥) → KeepsJoinings lines old new
-joinings_noted lines old mid new t before noted other = λ place l name o at is told.
+-- what is told of a line of another kind
+pub openings_noted : (lines : List Line) (old mid new : List (Option Outcome)) (t : LineOutcome) → KeepsOpenings lines old mid → new ≡ with_line_noted mid t → ((l : Line) → slice_get lines t.place ≡ Some l → IsOpeningLine l.command → ⊥) → KeepsOpenings lines old new
+openings_noted lines old mid new t before noted other = λ place l o at opens told.
     let here = subst (λ (os : List (Option Outcome)). slice_index_or os place None ≡ Some o) noted told in
     elim (noted_cases mid t.place place t.outcome o here) [
-      | inl was ↦ before place l name o at is was
-      | inr now ↦ absurd (other l name (ap (λ n. slice_get lines n) now.0 ∙ at) is)
+      | inl was ↦ before place l o at opens was
+      | inr now ↦ absurd (other l (ap (λ n. slice_get lines n) now.0 ∙ at) opens)
     ]
 
 -- a line that is of another kind
-pub other_line : (lines : List Line) (place : ℕ) (m : Line) → slice_get lines place ≡ Some m → ((name : List ℕ) → m.command ≡ command.Join name → ⊥) → (l : Line) (name : List ℕ) → slice_get lines place ≡ Some l → l.command ≡ command.Join name → ⊥
-other_line lines place m at other l name found is = other name (ap (λ (x : Line). x.command) (same_line lines place m l at found) ∙ is)
+pub other_line : (lines : List Line) (place : ℕ) (m : Line) (asked : Command) → slice_get lines place ≡ Some m → m.command ≡ asked → (IsOpeningLine asked → ⊥) → (l : Line) → slice_get lines place ≡ Some l → IsOpeningLine l.command → ⊥
+other_line lines place m asked at is other l found opens = other (subst IsOpeningLine (ap (λ (x : Line). x.command) (sym (same_line lines place m l at found)) ∙ is) opens)
 
-own_line : (c : CatalogueValue) (lines : List Line) (records : List Record) (execution : List ℕ) (f : ℕ) (own : List ℕ) (t : LineOutcome) → IsOwnTelling c lines records execution f own t
-    → (l : Line) (name : List ℕ) → slice_get lines t.place ≡ Some l → l.command ≡ command.Join name → ⊥
-own_line c lines records execution f own t h l name at is = let clash : command.Federate own h.0 ≡ command.Join name = sym (h.1 l at) ∙ is in cc
+own_line : (c : CatalogueValue) (lines : List Line) (records : List Record) (execution : List ℕ) (f : ℕ) (own : List ℕ) (t : LineOutcome) → IsOwnTelling c lines records execution f own t → (l : Line) → slice_get lines t.place ≡ Some l → IsOpeningLine l.command → ⊥
+own_line c lines records execution f own t h l at opens = subst IsOpeningLine (h.1 l at) opens
 
 all_own : (c : CatalogueValue) (lines : List Line) (records : List Record) (execution : List ℕ) (f : ℕ) (own : List ℕ) (told : List LineOutcome) (outcomes : List (Option Outcome)) → AreOwnTellings c lines records execution f own told
-    → KeepsJoinings lines outcomes (with_lines_noted outcomes told)
-all_own c lines records execution f own [] outcomes tellings = λ place l name o at is told. told
+    → KeepsOpenings lines outcomes (with_lines_noted outcomes told)
+all_own c lines records execution f own [] outcomes tellings = λ place l o at opens told. told
 all_own c lines records execution f own (t ∷ ts) outcomes tellings =
-    let first : KeepsJoinings lines outcomes (with_line_noted outcomes t) =
-    joinings_noted lines outcomes outcomes (with_line_noted outcomes t) t (λ place l name o at is told. told) refl (own_line c lines records execution f own t (tellings 0 t (omega arith))) in
-    joinings_twice lines outcomes (with_line_noted outcomes t) (with_lines_noted (with_line_noted outcomes t) ts) first
+    let first : KeepsOpenings lines outcomes (with_line_noted outcomes t) =
+    openings_noted lines outcomes outcomes (with_line_noted outcomes t) t (λ place l o at opens told. told) refl (own_line c lines records execution f own t (tellings 0 t (omega arith))) in
+    openings_twice lines outcomes (with_line_noted outcomes t) (with_lines_noted (with_line_noted outcomes t) ts) first
     (all_own c lines records execution f own ts (with_line_noted outcomes t) (λ k d below. tellings (suc k) d (omega (arith, below))))
 
 module _ {L B P F : Type 0} where
@@ -62,7 +59,7 @@ module _ {L B P F : Type 0} where
       let others : All Recorded lives = λ k d below. All-contains Recorded (lives ++ life ∷ []) (get_or lives k d) recorded (Contains-append_left lives (life ∷ []) (get_or lives k d) (Contains-get_or lives k d below)) in
       let own : Recorded life = All-contains Recorded (lives ++ life ∷ []) life recorded (Contains-push lives life) in
       let last = all_own c lines (caller_of life.player).transcript execution life.number life.name life.told.items mid own.1 in
-      joinings_same lines old (with_lines_noted mid life.told.items) new (joinings_twice lines old mid (with_lines_noted mid life.told.items) (before c lines execution others) last) noted
+      openings_same lines old (with_lines_noted mid life.told.items) new (openings_twice lines old mid (with_lines_noted mid life.told.items) (before c lines execution others) last) noted
 
   pub calls_of : (some all : List (Life L B P F)) (old new : List (Option Outcome)) → some ≡ all → GathersCalls some old new → GathersCalls all old new
   calls_of some all old new same h = subst (λ (ls : List (Life L B P F)). GathersCalls ls old new) same h
@@ -99,8 +96,8 @@ module _ {L B P F : Type 0} where
             subst (λ (x : Line). HasLifeOf new x.command o) same (subst (λ (x : Outcome). HasLifeOf new l.command x) now.1 own)
       ]
 
-  pub each_life_kept : (lines : List Line) (lives : List (Life L B P F)) (old new : List (Option Outcome)) → KeepsJoinings lines old new → HasEachLife lines lives old → HasEachLife lines lives new
-  each_life_kept lines lives old new keeps each = λ place l o at told name f is done. each place l o at (keeps place l name o at is told) name f is done
+  pub each_life_kept : (lines : List Line) (lives : List (Life L B P F)) (old new : List (Option Outcome)) → KeepsOpenings lines old new → HasEachLife lines lives old → HasEachLife lines lives new
+  each_life_kept lines lives old new keeps each = λ place l o at told name f is done. each place l o at (keeps place l o at (subst IsOpeningLine (sym is) tt) told) name f is done
 
   -- who is none of the lives is a stranger
   pub stranger_told : (lines : List Line) (lives : List (Life L B P F)) (outcomes : List (Option Outcome)) → HasEachLife lines lives outcomes → (name : List ℕ) → is_stranger lives name ≡ true → IsStranger lines outcomes name

@@ -1,12 +1,11 @@
 -- What is told of a federate's lines is answered in turn, through what all leave behind.
 use Rattle.std.proofs.Common.{◌≡◌, ℕ, zero, suc, ◌<◌, List, [], ◌∷◌, ◌++◌, length, get_or, true, false, Option, None, Some, ◌⊎◌, inl, inr, sym, ap, subst, ◌∙◌, arith}
-use Rattle.std.specs.Prelude.{slice_index_or, slice_set}
+use Rattle.std.specs.Prelude.{◌||◌, slice_index_or}
 use Rattle.std.specs.List.{All, Contains}
 use Rattle.std.specs.Str.{bytes_eq}
-use Rattle.std.specs.Prelude.{◌||◌}
 use Rattle.std.proofs.lemmas.Bool.{both_ways, cases_Bool, cases_eq, or_cases}
 use Rattle.std.proofs.lemmas.Bool.Decides.{not_from_Decides}
-use Rattle.std.proofs.lemmas.List.Elements.{All-contains, Contains-append_left, Contains-append_right, Contains-push, Contains-get_or}
+use Rattle.std.proofs.lemmas.List.Elements.{All-contains, All-push, Contains-append_left, Contains-append_right, Contains-push, Contains-get_or}
 use Rattle.std.proofs.lemmas.Option.{slice_get_within}
 use Rattle.std.proofs.lemmas.Slice.Eq.{bytes_eq-Decides}
 use Rattle.hla_catalogue.specs.CatalogueValue.{CatalogueValue}
@@ -14,14 +13,14 @@ use Rattle.hla_commands.specs.declared.lines.Command.TheVariants as command
 use Rattle.hla_commands.specs.declared.lines.Line.{Line}
 use Rattle.hla_machine.specs.declared.step.Outcome.{Outcome}
 use Rattle.hla_machine.specs.declared.step.Record.{Record}
-use Rattle.hla_callers.specs.Callers.{Leaver}
+use Rattle.hla_callers.specs.Callers.{Caller, Leaver}
 use Rattle.hla_callers.specs.Close.{Agrees}
 use Rattle.hla_players.specs.Deeds.{caller_of}
 use Rattle.hla_outcomes.specs.Running.{with_line_noted, with_lines_noted}
 use Rattle.hla_outcomes.specs.declared.outcomes.LineOutcome.{LineOutcome}
-use Rattle.hla_run.specs.Recorded.{AreAnsweredInTurn, GathersInTurn, HasJoined, IsLifeRecorded, IsNameInTurn, IsOwnTelling, IsToldTo, IsTranscriptIn, LeavesBehind, has_life}
+use Rattle.hla_run.specs.Recorded.{AreAnsweredInTurn, GathersCallers, GathersInTurn, HasJoined, IsCallerInTurn, IsCallerKnown, IsLifeRecorded, IsNameInTurn, IsOwnTelling, IsToldTo, IsTranscriptIn, LeavesBehind, LeavesPair, has_life}
 use Rattle.hla_run.specs.declared.life.Life.{Life}
-use Rattle.hla_run.proofs.RecordLemmas.{noted_cases, unmade_in}
+use Rattle.hla_run.proofs.RecordLemmas.{noted_cases, noted_first, noted_same, pair_behind, unmade_in}
 use Rattle.hla_run.proofs.StrangerLemmas.{life_or}
 
 -- ---- in turn among more records
@@ -34,17 +33,12 @@ turn_in c lines wider all execution f name records (t ∷ ts) within h = (
   h.2,
   h.3,
   elim h.4 [
-    | inl made ↦ inl (made.0, made.1, made.2, made.3, turn_in c lines wider all execution f name made.1 ts within made.4)
+    | inl made ↦ inl (made.0, made.1, made.2, made.3, made.4, turn_in c lines wider all execution f name made.1 ts within made.5)
     | inr none ↦ inr (none.0, none.1, unmade_in c wider all execution f h.0 t.outcome within none.2, turn_in c lines wider all execution f name none.0 ts within none.3)
   ],
 )
 
 -- ---- outcomes by place
-noted_same : (xs : List (Option Outcome)) (i : ℕ) (v o : Outcome) → slice_index_or (slice_set xs i (Some v)) i None ≡ Some o → v ≡ o
-noted_same [] i v o is = absurd (cc)
-noted_same (x ∷ xs) zero v o is = cc
-noted_same (x ∷ xs) (suc i) v o is = noted_same xs i v o is
-
 first_or : (t u : LineOutcome) (ts : List LineOutcome) (k : ℕ) → k < length (t ∷ ts) → slice_index_or (t ∷ ts) k u ≡ u → (t ≡ u) ⊎ Contains ts u
 first_or t u ts zero below is = inl is
 first_or t u ts (suc k) below is = inr (k, omega arith, is)
@@ -54,11 +48,6 @@ none_more t ts place first others u there at = elim (first_or t u ts there.0 the
   | inl same ↦ first (ap (λ (x : LineOutcome). x.place) same ∙ at)
   | inr later ↦ others u later at
 ]
-
-noted_first : (t : LineOutcome) (place : ℕ) (o : Outcome) → t.place ≡ place → t.outcome ≡ o → t ≡ record { place = place; outcome = o }
-noted_first t place o at is =
-    let first : t ≡ record { place = place; outcome = t.outcome } = ap (λ (n : ℕ). let x : LineOutcome = record { place = n; outcome = t.outcome } in x) at in
-    first ∙ ap (λ (y : Outcome). let x : LineOutcome = record { place = place; outcome = y } in x) is
 
 noted_all : (told : List LineOutcome) (outcomes : List (Option Outcome)) (place : ℕ) (o : Outcome) → slice_index_or (with_lines_noted outcomes told) place None ≡ Some o
     → Contains told (record { place = place; outcome = o }) ⊎ ((slice_index_or outcomes place None ≡ Some o) × ((t : LineOutcome) → Contains told t → t.place ≡ place → ⊥))
@@ -86,43 +75,51 @@ module _ {L B P F : Type 0} where
   ]
 
   -- the last life's own name
-  own_turn : (c : CatalogueValue) (lines : List Line) (execution : List ℕ) (history : List Record) (life : Life L B P F) (mid new : List (Option Outcome)) → new ≡ with_lines_noted mid life.told.items → life.lacks_memory ≡ false
-      → IsTranscriptIn history (caller_of life.player).transcript → Agrees history (caller_of life.player) → IsLifeRecorded c lines execution life → IsToldTo lines (length lines) life → HasJoined history execution life.name life.number
-      → IsNameInTurn c lines history new life.name
-  own_turn c lines execution history life mid new noted whole within agrees recorded told joined =
+  -- what holds of all lives holds of those before the last, and of the last
+  split_last : (Q : Life L B P F → Type 0) (lives : List (Life L B P F)) (life : Life L B P F) → All Q (lives ++ life ∷ []) → All Q lives × Q life
+  split_last Q lives life all = (
+    λ k d below. All-contains Q (lives ++ life ∷ []) (get_or lives k d) all (Contains-append_left lives (life ∷ []) (get_or lives k d) (Contains-get_or lives k d below)),
+    All-contains Q (lives ++ life ∷ []) life all (Contains-push lives life),
+  )
+
+  own_caller : (c : CatalogueValue) (lines : List Line) (execution : List ℕ) (history : List Record) (life : Life L B P F) → life.lacks_memory ≡ false → IsTranscriptIn history (caller_of life.player).transcript → Agrees history (caller_of life.player)
+      → IsLifeRecorded c lines execution life → IsToldTo lines (length lines) life → HasJoined history execution life.name life.number → IsCallerInTurn c lines history life.name (caller_of life.player) life.told.items
+  own_caller c lines execution history life whole within agrees recorded told joined =
       let transcript = (caller_of life.player).transcript in
       let turns : AreAnsweredInTurn c lines transcript execution life.number life.name transcript life.told.items = elim recorded.2 [ inl lacks ↦ absurd (both_ways life.lacks_memory whole lacks) | inr own ↦ own ] in
       record {
         execution = execution;
         federate = life.number;
-        caller = caller_of life.player;
-        told = life.told.items;
         joined = joined;
         agrees = agrees;
         rising = told.0;
-        tells = λ place l call o at is now.
-            let here = subst (λ (os : List (Option Outcome)). slice_index_or os place None ≡ Some o) noted now in
-            elim (noted_all life.told.items mid place o here) [
-              | inl there ↦ there
-              | inr none ↦ elim told.2 [
-                | inl lacks ↦ absurd (both_ways life.lacks_memory whole lacks)
-                | inr complete ↦ let one = complete place l call (slice_get_within lines place l at) at is in absurd (none.1 one.0 one.1 one.2)
-              ]
-            ];
         in_turn = turn_in c lines history transcript execution life.number life.name transcript life.told.items within turns;
       }
+
+  own_turn : (c : CatalogueValue) (lines : List Line) (history : List Record) (life : Life L B P F) (mid new : List (Option Outcome)) → new ≡ with_lines_noted mid life.told.items → life.lacks_memory ≡ false
+      → IsCallerInTurn c lines history life.name (caller_of life.player) life.told.items → IsToldTo lines (length lines) life → IsNameInTurn c lines history new life.name
+  own_turn c lines history life mid new noted whole own told = record {
+    caller = caller_of life.player;
+    told = life.told.items;
+    own = own;
+    tells = λ place l call o at is now.
+        let here = subst (λ (os : List (Option Outcome)). slice_index_or os place None ≡ Some o) noted now in
+        elim (noted_all life.told.items mid place o here) [
+          | inl there ↦ there
+          | inr none ↦ elim told.2 [
+            | inl lacks ↦ absurd (both_ways life.lacks_memory whole lacks)
+            | inr complete ↦ let one = complete place l call (slice_get_within lines place l at) at is in absurd (none.1 one.0 one.1 one.2)
+          ]
+        ];
+  }
 
   -- another name
   other_turn : (c : CatalogueValue) (lines : List Line) (execution : List ℕ) (history : List Record) (life : Life L B P F) (mid new : List (Option Outcome)) (name : List ℕ) → new ≡ with_lines_noted mid life.told.items → bytes_eq life.name name ≡ false
       → IsLifeRecorded c lines execution life → IsNameInTurn c lines history mid name → IsNameInTurn c lines history new name
   other_turn c lines execution history life mid new name noted other recorded was = record {
-    execution = was.execution;
-    federate = was.federate;
     caller = was.caller;
     told = was.told;
-    joined = was.joined;
-    agrees = was.agrees;
-    rising = was.rising;
+    own = was.own;
     tells = λ place l call o at is now.
         let here = subst (λ (os : List (Option Outcome)). slice_index_or os place None ≡ Some o) noted now in
         elim (noted_all life.told.items mid place o here) [
@@ -134,7 +131,6 @@ module _ {L B P F : Type 0} where
               absurd (not_from_Decides (bytes_eq life.name name) (bytes_eq-Decides life.name name) other same)
           | inr none ↦ was.tells place l call o at is none.0
         ];
-    in_turn = was.in_turn;
   }
 
   pub turns_more : (lives : List (Life L B P F)) (life : Life L B P F) (some all : List Leaver) (mid new : List (Option Outcome)) → GathersInTurn lives some mid → new ≡ with_lines_noted mid life.told.items → life.lacks_memory ≡ false
@@ -142,23 +138,36 @@ module _ {L B P F : Type 0} where
   turns_more lives life some all mid new before noted whole behind = λ c lines execution history recorded told joined lefts agree name has.
       let left = (behind history).0 lefts in
       let agreed = (behind history).1 agree in
-      let Recorded : Life L B P F → Type 0 = IsLifeRecorded c lines execution in
-      let Told : Life L B P F → Type 0 = IsToldTo lines (length lines) in
-      let Joined : Life L B P F → Type 0 = λ (x : Life L B P F). HasJoined history execution x.name x.number in
-      let others : All Recorded lives = λ k d below. All-contains Recorded (lives ++ life ∷ []) (get_or lives k d) recorded (Contains-append_left lives (life ∷ []) (get_or lives k d) (Contains-get_or lives k d below)) in
-      let others_told : All Told lives = λ k d below. All-contains Told (lives ++ life ∷ []) (get_or lives k d) told (Contains-append_left lives (life ∷ []) (get_or lives k d) (Contains-get_or lives k d below)) in
-      let others_joined : All Joined lives = λ k d below. All-contains Joined (lives ++ life ∷ []) (get_or lives k d) joined (Contains-append_left lives (life ∷ []) (get_or lives k d) (Contains-get_or lives k d below)) in
-      let own : Recorded life = All-contains Recorded (lives ++ life ∷ []) life recorded (Contains-push lives life) in
-      let own_told : Told life = All-contains Told (lives ++ life ∷ []) life told (Contains-push lives life) in
-      let own_joined : Joined life = All-contains Joined (lives ++ life ∷ []) life joined (Contains-push lives life) in
+      let records = split_last (IsLifeRecorded c lines execution) lives life recorded in
+      let tells = split_last (IsToldTo lines (length lines)) lives life told in
+      let joins = split_last (λ (x : Life L B P F). HasJoined history execution x.name x.number) lives life joined in
       elim (cases_Bool (bytes_eq life.name name)) [
         | inl same ↦
-            let here = own_turn c lines execution history life mid new noted whole left.1 agreed.1 own own_told own_joined in
+            let here = own_turn c lines history life mid new noted whole (own_caller c lines execution history life whole left.1 agreed.1 records.1 tells.1 joins.1) tells.1 in
             subst (λ (n : List ℕ). IsNameInTurn c lines history new n) ((bytes_eq-Decides life.name name).0 same) here
         | inr other ↦
-            let was = before c lines execution history others others_told others_joined left.0 agreed.0 name (life_before lives life name other has) in
-            other_turn c lines execution history life mid new name noted other own was
+            let was = before c lines execution history records.0 tells.0 joins.0 left.0 agreed.0 name (life_before lives life name other has) in
+            other_turn c lines execution history life mid new name noted other records.1 was
       ]
 
   pub turns_of : (some all : List (Life L B P F)) (lefts : List Leaver) (new : List (Option Outcome)) → some ≡ all → GathersInTurn some lefts new → GathersInTurn all lefts new
   turns_of some all lefts new same h = subst (λ (ls : List (Life L B P F)). GathersInTurn ls lefts new) same h
+
+  -- ---- whose records they are
+  pub callers_more : (lives : List (Life L B P F)) (life : Life L B P F) (some all : List Leaver) → GathersCallers lives some → life.lacks_memory ≡ false → LeavesPair some (caller_of life.player) all → GathersCallers (lives ++ life ∷ []) all
+  callers_more lives life some all before whole pair = λ c lines execution history recorded told joined lefts agree.
+      let behind = pair_behind some all (caller_of life.player) pair in
+      let left = (behind history).0 lefts in
+      let agreed = (behind history).1 agree in
+      let records = split_last (IsLifeRecorded c lines execution) lives life recorded in
+      let tells = split_last (IsToldTo lines (length lines)) lives life told in
+      let joins = split_last (λ (x : Life L B P F). HasJoined history execution x.name x.number) lives life joined in
+      let Known : Leaver → Type 0 = λ (l : Leaver). IsCallerKnown c lines history l.caller in
+      let own : IsCallerKnown c lines history (caller_of life.player) = inl (life.name, life.told.items, own_caller c lines execution history life whole left.1 agreed.1 records.1 tells.1 joins.1) in
+      let first : Known pair.0 = subst (λ (x : Caller). IsCallerKnown c lines history x) (sym pair.3) own in
+      let some_known : All Known some = before c lines execution history records.0 tells.0 joins.0 left.0 agreed.0 in
+      let second : Known pair.1 = inr pair.4 in
+      subst (λ (ls : List Leaver). All Known ls) (sym pair.2) (All-push Known (some ++ pair.0 ∷ []) pair.1 (All-push Known some pair.0 some_known first) second)
+
+  pub callers_of : (some all : List (Life L B P F)) (lefts : List Leaver) → some ≡ all → GathersCallers some lefts → GathersCallers all lefts
+  callers_of some all lefts same h = subst (λ (ls : List (Life L B P F)). GathersCallers ls lefts) same h

@@ -1,5 +1,5 @@
 -- What is told of the lines of federates, by the records of the history
-use Rattle.std.specs.Prelude.{◌≡◌, ◌⊎◌, ◌++◌, ◌∷◌, ◌<◌, ℕ, List, [], length, Bool, true, false, not, Option, None, Some, Result, Ok, Err, slice_get, slice_index_or}
+use Rattle.std.specs.Prelude.{◌≡◌, ◌⊎◌, ◌++◌, ◌∷◌, ◌+◌, ◌<◌, ℕ, List, [], length, Bool, true, not, Option, None, Some, Result, Ok, Err, slice_get, slice_index_or}
 use Rattle.hla_base.specs.declared.fault.Fault.{Fault}
 use Rattle.hla_base.specs.declared.fault.Fault.TheVariants as fault
 use Rattle.std.specs.List.{All, Contains, list_any}
@@ -23,8 +23,8 @@ use Rattle.hla_machine.specs.declared.step.Step.TheVariants as step
 use Rattle.hla_requests.specs.Requests.{service_of}
 use Rattle.hla_callers.specs.Callers.{Caller, Leaver, answer_given}
 use Rattle.hla_callers.specs.Close.{Agrees}
+use Rattle.hla_interface.specs.Exchanges.{IsExchange}
 use Rattle.hla_players.specs.Deeds.{caller_of}
-use Rattle.hla_outcomes.specs.Running.{AreTold, IsRunFrom}
 use Rattle.hla_run.specs.declared.life.Life.{Life}
 use Rattle.hla_outcomes.specs.declared.outcomes.LineOutcome.{LineOutcome}
 use Rattle.hla_players.specs.declared.player.Player.{Player}
@@ -139,10 +139,19 @@ abbrev pub IsStranger : List Line → List (Option Outcome) → List ℕ → Typ
 IsStranger lines outcomes name =
     (place : ℕ) (l : Line) (f : ℕ) → slice_get lines place ≡ Some l → l.command ≡ command.Join name → slice_index_or outcomes place None ≡ Some (outcome.Done (answer.Federate f)) → ⊥
 
--- of lines that join the same is told as before, or nothing was told of them and nothing is
-abbrev pub KeepsJoinings : List Line → List (Option Outcome) → List (Option Outcome) → Type 0
-KeepsJoinings lines old new =
-    (place : ℕ) (l : Line) (name : List ℕ) (o : Outcome) → slice_get lines place ≡ Some l → l.command ≡ command.Join name → slice_index_or new place None ≡ Some o → slice_index_or old place None ≡ Some o
+-- a line that creates the execution or joins a federate
+abbrev pub IsOpeningLine : Command → Type 0
+IsOpeningLine command.Create = Unit {0}
+IsOpeningLine command.Destroy = ⊥
+IsOpeningLine (command.Join name) = Unit {0}
+IsOpeningLine (command.Carry from to) = ⊥
+IsOpeningLine (command.Announce name) = ⊥
+IsOpeningLine (command.Federate name call) = ⊥
+
+-- of lines that create and join the same is told as before, or nothing was told of them and nothing is
+abbrev pub KeepsOpenings : List Line → List (Option Outcome) → List (Option Outcome) → Type 0
+KeepsOpenings lines old new =
+    (place : ℕ) (l : Line) (o : Outcome) → slice_get lines place ≡ Some l → IsOpeningLine l.command → slice_index_or new place None ≡ Some o → slice_index_or old place None ≡ Some o
 
 -- ---- each line by a record of its own, in the order of the lines
 -- this record is of this act in an execution, and answers this
@@ -157,9 +166,21 @@ IsAnswerTo c execution f call given r = (asked : Option Service) × (service_of 
 abbrev pub AreEmptyTicks : List ℕ → ℕ → List Record → Type 0
 AreEmptyTicks execution f records = All (IsRecordOf execution (act.Step (step.Tick f)) (Ok (answer.Ticked None))) records
 
+-- how often a line that ticks does so at most
+abbrev pub max_line_ticks : ℕ
+max_line_ticks = 1000
+
 -- these are what a call has spent before it was answered: ticks with nothing, where it ticks, and else nothing
 abbrev pub AreSpent : CatalogueValue → List ℕ → ℕ → Call → List Record → Type 0
-AreSpent c execution f call records = AreEmptyTicks execution f records × ((records ≡ []) ⊎ (service_of c call ≡ Ok None))
+AreSpent c execution f call records = AreEmptyTicks execution f records × ((records ≡ []) ⊎ ((service_of c call ≡ Ok None) × (length records < max_line_ticks)))
+
+-- that a tick gave nothing is told only of the last that a line may make
+abbrev pub IsLastTick : Outcome → List Record → Type 0
+IsLastTick out spent = out ≡ outcome.Done (answer.Ticked None) → length spent + 1 ≡ max_line_ticks
+
+-- the same where a call ticks
+abbrev pub GivesUpLast : CatalogueValue → Call → Outcome → List Record → Type 0
+GivesUpLast c call out spent = service_of c call ≡ Ok None → IsLastTick out spent
 
 -- these records are what lines of this name are answered by, in the order of what is told of them, each by another one behind what it has
 -- spent; or a call was not made, by all records
@@ -167,7 +188,7 @@ abbrev pub AreAnsweredInTurn : CatalogueValue → List Line → List Record → 
 AreAnsweredInTurn c lines all execution f name records [] = records ≡ []
 AreAnsweredInTurn c lines all execution f name records (t ∷ ts) =
     (call : Call) × (spent : List Record) × IsCallAt lines t.place name call × AreSpent c execution f call spent
-    × (((r : Record) × (rest : List Record) × (records ≡ spent ++ r ∷ rest) × IsAnswerTo c execution f call (answer_given t.outcome) r × AreAnsweredInTurn c lines all execution f name rest ts)
+    × (((r : Record) × (rest : List Record) × (records ≡ spent ++ r ∷ rest) × IsAnswerTo c execution f call (answer_given t.outcome) r × GivesUpLast c call t.outcome spent × AreAnsweredInTurn c lines all execution f name rest ts)
     ⊎ ((rest : List Record) × (records ≡ spent ++ rest) × IsUnmade c all execution f call t.outcome × AreAnsweredInTurn c lines all execution f name rest ts))
 
 -- the caller has added to its transcript what it has spent, and a record that answers the act; or that has none
@@ -175,15 +196,16 @@ abbrev pub AddsAct : List ℕ → Act → Outcome → List Record → Caller →
 AddsAct execution a out spent old new =
     ((r : Record) × (new.transcript ≡ old.transcript ++ (spent ++ r ∷ [])) × IsRecordOf execution a (answer_given out) r) ⊎ ((new.transcript ≡ old.transcript ++ spent) × LacksRecord out)
 
--- a federate has ticked until something came
+-- a federate has ticked until something came, or as often as a line may
 abbrev pub AddsTicks : List ℕ → ℕ → Outcome → Caller → Caller → Type 0
-AddsTicks execution f out old new = (spent : List Record) × AreEmptyTicks execution f spent × AddsAct execution (act.Step (step.Tick f)) out spent old new
+AddsTicks execution f out old new =
+    (spent : List Record) × AreEmptyTicks execution f spent × (length spent < max_line_ticks) × IsLastTick out spent × AddsAct execution (act.Step (step.Tick f)) out spent old new
 
 -- the caller has added to its transcript what a call has spent, and a record that answers it; or it was not made
 abbrev pub AddsCall : CatalogueValue → List ℕ → ℕ → Call → Outcome → Caller → Caller → Type 0
 AddsCall c execution f call out old new =
     (spent : List Record) × AreSpent c execution f call spent
-    × (((r : Record) × (new.transcript ≡ old.transcript ++ (spent ++ r ∷ [])) × IsAnswerTo c execution f call (answer_given out) r) ⊎ ((new.transcript ≡ old.transcript ++ spent) × IsUnmade c new.transcript execution f call out))
+    × (((r : Record) × (new.transcript ≡ old.transcript ++ (spent ++ r ∷ [])) × IsAnswerTo c execution f call (answer_given out) r × GivesUpLast c call out spent) ⊎ ((new.transcript ≡ old.transcript ++ spent) × IsUnmade c new.transcript execution f call out))
 
 -- the places of what is told rise
 abbrev pub ArePlacesRising : List LineOutcome → Type 0
@@ -199,17 +221,21 @@ abbrev pub AreToldBelow : List Line → List ℕ → ℕ → List LineOutcome �
 AreToldBelow lines name k told =
     (place : ℕ) (l : Line) (call : Call) → place < k → slice_get lines place ≡ Some l → l.command ≡ command.Federate name call → (t : LineOutcome) × Contains told t × (t.place ≡ place)
 
--- all records of a caller in the history answer what is told of the lines of this name, in turn: those of a federate that has joined under it
-pub record IsNameInTurn (c : CatalogueValue) (lines : List Line) (history : List Record) (outcomes : List (Option Outcome)) (name : List ℕ) : Type 0 where
+-- all records of a caller in the history answer what it told of lines of this name, in turn: those of a federate that has joined under it
+pub record IsCallerInTurn (c : CatalogueValue) (lines : List Line) (history : List Record) (name : List ℕ) (caller : Caller) (told : List LineOutcome) : Type 0 where
   pub execution : List ℕ
   pub federate : ℕ
-  pub caller : Caller
-  pub told : List LineOutcome
   pub joined : HasJoined history execution name federate
   pub agrees : Agrees history caller
   pub rising : ArePlacesRising told
-  pub tells : (place : ℕ) (l : Line) (call : Call) (o : Outcome) → slice_get lines place ≡ Some l → l.command ≡ command.Federate name call → slice_index_or outcomes place None ≡ Some o → Contains told (record { place = place; outcome = o })
   pub in_turn : AreAnsweredInTurn c lines history execution federate name caller.transcript told
+
+-- what is told of the lines of this name is what such a caller told
+pub record IsNameInTurn (c : CatalogueValue) (lines : List Line) (history : List Record) (outcomes : List (Option Outcome)) (name : List ℕ) : Type 0 where
+  pub caller : Caller
+  pub told : List LineOutcome
+  pub own : IsCallerInTurn c lines history name caller told
+  pub tells : (place : ℕ) (l : Line) (call : Call) (o : Outcome) → slice_get lines place ≡ Some l → l.command ≡ command.Federate name call → slice_index_or outcomes place None ≡ Some o → Contains told (record { place = place; outcome = o })
 
 -- of lines of federates the same is told as before, or nothing was told of them and nothing is
 abbrev pub KeepsCalls : List Line → List (Option Outcome) → List (Option Outcome) → Type 0
@@ -298,6 +324,10 @@ abbrev pub LeavesBehind : List Leaver → Caller → List Leaver → Type 0
 LeavesBehind old c new =
     (history : List Record) → (AreTranscriptsIn history new → AreTranscriptsIn history old × IsTranscriptIn history c.transcript) × (AgreeAll history new → AgreeAll history old × Agrees history c)
 
+-- this caller's transcript is left behind with the others, and a courier's
+abbrev pub LeavesPair : List Leaver → Caller → List Leaver → Type 0
+LeavesPair old c new = (first : Leaver) × (second : Leaver) × (new ≡ (old ++ first ∷ []) ++ second ∷ []) × (first.caller ≡ c) × All IsExchange second.caller.transcript
+
 -- what is told of a line needs no record
 abbrev pub NeedsNoRecord : (List ℕ → Bool) → Command → Outcome → Type 0
 NeedsNoRecord stranger command out = (c : CatalogueValue) (records : List Record) → IsLineRecorded c records stranger command out
@@ -321,9 +351,9 @@ GathersRecorded lives lefts old new =
     (c : CatalogueValue) (lines : List Line) (execution : List ℕ) (history : List Record) (stranger : List ℕ → Bool) → All (IsLifeRecorded c lines execution) lives → AreJoined history execution lives → AreTranscriptsIn history lefts
     → AreOutcomesRecorded c lines history stranger old → AreOutcomesRecorded c lines history stranger new
 
--- what lives told was of lines of their own, and of none that joins
+-- what lives told was of lines of their own, and of none that creates or joins
 abbrev pub GathersCalls : {L B P F : Type 0} → List (Life L B P F) → List (Option Outcome) → List (Option Outcome) → Type 0
-GathersCalls lives old new = (c : CatalogueValue) (lines : List Line) (execution : List ℕ) → All (IsLifeRecorded c lines execution) lives → KeepsJoinings lines old new
+GathersCalls lives old new = (c : CatalogueValue) (lines : List Line) (execution : List ℕ) → All (IsLifeRecorded c lines execution) lives → KeepsOpenings lines old new
 
 -- what lives told of their lines is answered in turn, by what they left behind
 abbrev pub GathersInTurn : {L B P F : Type 0} → List (Life L B P F) → List Leaver → List (Option Outcome) → Type 0
@@ -331,22 +361,12 @@ GathersInTurn lives lefts new =
     (c : CatalogueValue) (lines : List Line) (execution : List ℕ) (history : List Record) → All (IsLifeRecorded c lines execution) lives → All (IsToldTo lines (length lines)) lives → AreJoined history execution lives → AreTranscriptsIn history lefts
     → AgreeAll history lefts → (name : List ℕ) → has_life lives name ≡ true → IsNameInTurn c lines history new name
 
--- ---- a run
--- what is told of all lines is recorded, and where a name is taken for a stranger's, of no line is it told that one has joined under it; of each other
--- name what is told of its lines is answered in turn
-pub record AreAllRecorded (c : CatalogueValue) (lines : List Line) (history : List Record) (outcomes : List (Option Outcome)) : Type 0 where
-  pub stranger : List ℕ → Bool
-  pub recorded : AreOutcomesRecorded c lines history stranger outcomes
-  pub strangers : (name : List ℕ) → stranger name ≡ true → IsStranger lines outcomes name
-  pub in_turn : (name : List ℕ) → stranger name ≡ false → IsNameInTurn c lines history outcomes name
+-- whose records these are is known: a federate's, which answer its lines in turn, or a courier's
+abbrev pub IsCallerKnown : CatalogueValue → List Line → List Record → Caller → Type 0
+IsCallerKnown c lines history caller = ((name : List ℕ) × (told : List LineOutcome) × IsCallerInTurn c lines history name caller told) ⊎ All IsExchange caller.transcript
 
--- where the history has what all have left behind, and what the infrastructure did itself, it records what is told of the lines
-abbrev pub RecordsTold : CatalogueValue → List Line → List (Option Outcome) → List Leaver → Caller → Type 0
-RecordsTold c lines outcomes lefts own = (history : List Record) → AreTranscriptsIn history lefts → AgreeAll history lefts → IsTranscriptIn history own.transcript → AreAllRecorded c lines history outcomes
-
--- what was written is told of lines as the history records it
-abbrev pub IsToldRecorded : List Record → CatalogueValue → List Line → Option (List ℕ) → Option (List ℕ) → Type 0
-IsToldRecorded history c lines old new = (told : AreTold c lines old new) × AreAllRecorded c lines history told.outcomes
-
-abbrev pub IsRunRecorded : List Record → List ℕ → List ℕ → Option (List ℕ) → Option (List ℕ) → Type 0
-IsRunRecorded history fed script old new = (run : IsRunFrom fed script old new) × AreAllRecorded run.catalogue run.lines history run.outcomes
+-- of all that was left behind it is known whose it is
+abbrev pub GathersCallers : {L B P F : Type 0} → List (Life L B P F) → List Leaver → Type 0
+GathersCallers lives lefts =
+    (c : CatalogueValue) (lines : List Line) (execution : List ℕ) (history : List Record) → All (IsLifeRecorded c lines execution) lives → All (IsToldTo lines (length lines)) lives → AreJoined history execution lives → AreTranscriptsIn history lefts
+    → AgreeAll history lefts → All (λ (l : Leaver). IsCallerKnown c lines history l.caller) lefts

@@ -1,12 +1,10 @@
 //! A federate's life on its thread.
 
 ghost use Rattle.std.specs.Prelude.{◌≡◌, ◌↔◌, ◌+◌, ℕ, List, None, IsTrue, length};
-ghost use Rattle.hla_machine.specs.declared.step.Act.TheVariants as act;
 ghost use Rattle.hla_machine.specs.declared.step.Answer.TheVariants as answer;
 ghost use Rattle.hla_machine.specs.declared.step.Outcome.TheVariants as outcome;
-ghost use Rattle.hla_machine.specs.declared.step.Step.TheVariants as step;
 ghost use Rattle.hla_players.specs.Deeds.{caller_of};
-ghost use Rattle.hla_run.specs.Recorded.{AddsCall, AddsTicks, HasExtended, IsActRecorded, IsCallAt, IsCallRecorded, IsLifeOf, IsLifeRecorded, IsPlayerAs, IsToldTo};
+ghost use Rattle.hla_run.specs.Recorded.{AddsCall, AddsTicks, IsCallAt, IsLifeOf, IsLifeRecorded, IsPlayerAs, IsToldTo};
 
 use hla_base::{ExecutionName, Fault, FederateNo, List};
 use hla_callbacks::FederateAmbassador;
@@ -145,9 +143,6 @@ fn tick_until_called<
 ) -> Outcome
     ensures execution { federate.new.execution ≡ federate.old.execution }
     ensures federate { federate.new.federate ≡ federate.old.federate }
-    ensures extended { HasExtended federate.old.caller federate.new.caller }
-    ensures recorded { IsActRecorded federate.new.caller.transcript federate.old.execution
-        (act.Step (step.Tick federate.old.federate)) result }
     ensures added { AddsTicks federate.old.execution federate.old.federate result
         federate.old.caller federate.new.caller }
 {
@@ -172,12 +167,8 @@ fn do_call<L: Ledger + Naming, B: FederateAmbassador, P: Publisher<L>, F: Execut
     courier: &mut Courier<L, B, P, F>,
     call: &Call<'_>,
 ) -> Acted<L, B, P, F>
-    ensures extended { HasExtended (caller_of player) (caller_of result.player) }
     ensures same { (execution : List ℕ) (f : ℕ) → IsPlayerAs execution f player
         → IsPlayerAs execution f result.player }
-    ensures recorded { (execution : List ℕ) (f : ℕ) → IsPlayerAs execution f player
-        → IsCallRecorded stage.now.catalogue.now (caller_of result.player).transcript execution f
-        call.now result.outcome }
     ensures added { (execution : List ℕ) (f : ℕ) → IsPlayerAs execution f player
         → AddsCall stage.now.catalogue.now execution f call.now result.outcome (caller_of player)
         (caller_of result.player) }

@@ -1,9 +1,12 @@
 //! What is done before the federates' threads begin, and after they have ended.
 
-ghost use Rattle.std.specs.Prelude.{◌≡◌, ◌<◌, ◌≤◌, drop, length, IfOk, IfSome, OnOk};
+ghost use Rattle.std.specs.Prelude.{◌≡◌, ◌<◌, ◌≤◌, ◌+◌, [], drop, length, Option, IfOk, IfSome, OnOk};
+ghost use Rattle.hla_catalogue.specs.CatalogueValue.{CatalogueValue};
+ghost use Rattle.hla_history.specs.Creating.{catalogue_from};
 ghost use Rattle.hla_outcomes.specs.Joining.{joins, joins_by};
 ghost use Rattle.hla_commands.specs.declared.lines.Command.TheVariants as command;
-ghost use Rattle.hla_run.specs.Recorded.{AreFresh, AreJoined, AreNotTold, HasEachLife, HasExtended, HasLifeOf, IsJoiningRecorded, IsOfficeLine, KeepsCalls, KeepsJoinings, KeepsLives, KeepsOffice, KeepsRecorded, has_life, is_stranger};
+ghost use Rattle.hla_run.specs.Accounted.{AddsLine, AreDoneBelow, DestroysInTurn, OpensLine};
+ghost use Rattle.hla_run.specs.Recorded.{AreFresh, AreJoined, AreNotTold, HasEachLife, HasLifeOf, IsOpeningLine, KeepsCalls, KeepsLives, KeepsOffice, KeepsOpenings, KeepsRecorded, has_life, is_stranger};
 
 use crate::life::Life;
 use hla_base::{ExecutionName, Fault, List};
@@ -40,8 +43,10 @@ fn join_next<L: Ledger + Naming, B: FederateAmbassador, P: Publisher<L>, F: Exec
 ) -> Result<Outcome, Fault>
     requires { 0 < length ambassadors.old }
     ensures taken { OnOk result (ambassadors.new ≡ drop 1 ambassadors.old) }
-    ensures own { OnOk result (HasExtended rti.old.own rti.new.own) }
-    ensures recorded { IfOk result (IsJoiningRecorded rti.new.own.transcript name.now) }
+    ensures handed { OnOk result (rti.new.handed ≤ rti.old.handed + 2) }
+    ensures office { IfOk result (λ out. (read : Option CatalogueValue)
+        → AddsLine read rti.old.handed execution (command.Join name.now) out rti.old.own
+        rti.new.own) }
     ensures fresh { OnOk result
         (AreFresh execution lives.old.items → AreFresh execution lives.new.items) }
     ensures joined { OnOk result (AreJoined rti.old.own.transcript execution lives.old.items
@@ -89,12 +94,14 @@ fn open_by<L: Ledger + Naming, B: FederateAmbassador, P: Publisher<L>, F: Execut
 ) -> Result<Option<Outcome>, Fault>
     requires { joins_by command.now ≤ length ambassadors.old }
     ensures taken { OnOk result (ambassadors.new ≡ drop (joins_by command.now) ambassadors.old) }
-    ensures own { OnOk result (HasExtended rti.old.own rti.new.own) }
+    ensures handed { OnOk result
+        (rti.new.handed ≤ rti.old.handed + (joins_by command.now + joins_by command.now)) }
+    ensures office { IfOk result (λ out. OpensLine (catalogue_from fed.now) rti.old.handed execution
+        command.now out rti.old.own rti.new.own) }
     ensures fresh { OnOk result
         (AreFresh execution lives.old.items → AreFresh execution lives.new.items) }
     ensures joined { OnOk result (AreJoined rti.old.own.transcript execution lives.old.items
         → AreJoined rti.new.own.transcript execution lives.new.items) }
-    ensures recorded { IfOk result (λ out. IfSome out (IsOfficeLine rti.new.own command.now)) }
     ensures lives { OnOk result (KeepsLives lives.old.items lives.new.items) }
     ensures life { IfOk result (λ out. IfSome out (HasLifeOf lives.new.items command.now)) }
 {
@@ -128,6 +135,9 @@ pub fn open<L: Ledger + Naming, B: FederateAmbassador, P: Publisher<L>, F: Execu
     ensures fresh { IfOk result (λ lives. AreFresh execution lives.items) }
     ensures joined { IfOk result (λ lives. AreJoined rti.new.own.transcript execution lives.items) }
     ensures recorded { OnOk result (KeepsOffice lines.now rti.new.own outcomes.old outcomes.new) }
+    ensures office { OnOk result (rti.old.handed ≡ 0 → rti.old.own.transcript ≡ []
+        → AreDoneBelow IsOpeningLine (catalogue_from fed.now) (joins lines.now + joins lines.now)
+        lines.now execution (length lines.now) rti.new.own.transcript outcomes.new) }
     ensures lives { IfOk result (λ lives. AreNotTold outcomes.old
         → HasEachLife lines.now lives.items outcomes.new) }
 {
@@ -159,9 +169,9 @@ pub fn destroy<L: Ledger + Naming, B: FederateAmbassador, P: Publisher<L>, F: Ex
     outcomes: &mut Outcomes,
 )
     ensures each { length outcomes.new ≡ length outcomes.old }
-    ensures own { HasExtended rti.old.own rti.new.own }
+    ensures office { DestroysInTurn lines.now execution rti.old.own rti.new.own outcomes.new }
     ensures recorded { KeepsOffice lines.now rti.new.own outcomes.old outcomes.new }
-    ensures joinings { KeepsJoinings lines.now outcomes.old outcomes.new }
+    ensures openings { KeepsOpenings lines.now outcomes.old outcomes.new }
     ensures calls { KeepsCalls lines.now outcomes.old outcomes.new }
 {
     for (place, line) in lines.iter().enumerate() {
@@ -190,7 +200,7 @@ pub fn refuse_strangers<L: Ledger + Naming, B: FederateAmbassador, P: Publisher<
 )
     ensures each { length outcomes.new ≡ length outcomes.old }
     ensures recorded { KeepsRecorded lines.now (is_stranger lives.now) outcomes.old outcomes.new }
-    ensures joinings { KeepsJoinings lines.now outcomes.old outcomes.new }
+    ensures openings { KeepsOpenings lines.now outcomes.old outcomes.new }
 {
     for (place, line) in lines.iter().enumerate() {
         if let Command::Federate { name, .. } = &line.command {

@@ -6,9 +6,11 @@
 ghost use Rattle.std.specs.Prelude.{◌≡◌, ◌||◌, ◌≤◌, ℕ, [], false, IfOk, OnOk, IfErr, length, vec_len, List, None, replicate};
 ghost use Rattle.std.specs.List.{All};
 ghost use Rattle.hla_base.specs.Limits.{ledger_parts};
+ghost use Rattle.hla_history.specs.Creating.{catalogue_from};
 ghost use Rattle.hla_players.specs.Deeds.{caller_of};
 ghost use Rattle.hla_outcomes.specs.Joining.{joins, script_joins};
-ghost use Rattle.hla_run.specs.Recorded.{GathersCalls, GathersInTurn, GathersRecorded, IsLifeOf, IsLifeRecorded, IsRunRecorded, IsToldRecorded, IsToldTo, LeavesBehind, RecordsTold};
+ghost use Rattle.hla_run.specs.Accounted.{IsRunRecorded, IsToldRecorded, RecordsTold};
+ghost use Rattle.hla_run.specs.Recorded.{GathersCallers, GathersCalls, GathersInTurn, GathersRecorded, IsLifeOf, IsLifeRecorded, IsToldTo, LeavesPair};
 ghost use Rattle.hla_outcomes.specs.Running.{AreAllDone, AreTold, IsRunFrom, IsSeen, StopsRun, StopsTelling, is_unwritten_run, with_lines_noted};
 
 use crate::life::{Life, Stage, live};
@@ -41,7 +43,7 @@ fn gather<L: Ledger + Naming, B: FederateAmbassador, P: Publisher<L>, F: Executi
 ) -> Result<(), Fault>
     ensures each { length outcomes.new ≡ length outcomes.old }
     ensures told { outcomes.new ≡ with_lines_noted outcomes.old life.told.items }
-    ensures left { OnOk result (LeavesBehind lefts.old.items (caller_of life.player)
+    ensures left { OnOk result (LeavesPair lefts.old.items (caller_of life.player)
         lefts.new.items) }
     ensures whole { OnOk result (life.lacks_memory ≡ false) }
 {
@@ -73,6 +75,7 @@ fn gather_all<L: Ledger + Naming, B: FederateAmbassador, P: Publisher<L>, F: Exe
         outcomes.new) }
     ensures calls { OnOk result (GathersCalls lives.items outcomes.old outcomes.new) }
     ensures turns { IfOk result (λ lefts. GathersInTurn lives.items lefts.items outcomes.new) }
+    ensures callers { IfOk result (λ lefts. GathersCallers lives.items lefts.items) }
 {
     let mut lefts = Vec::new(alloc);
     for life in lives {
@@ -113,10 +116,12 @@ fn run_lines<
 ) -> Result<Vec<Left<L, B>>, Fault>
     requires enough { joins lines.now ≤ length ambassadors }
     requires blank { outcomes.old ≡ replicate (length lines.now) None }
+    requires handed { rti.old.handed ≡ 0 }
+    requires office { rti.old.own.transcript ≡ [] }
     ensures each { OnOk result (length outcomes.new ≡ length outcomes.old) }
     ensures done { OnOk result (AreAllDone lines.now outcomes.new) }
-    ensures recorded { IfOk result (λ lefts. RecordsTold catalogue.now lines.now outcomes.new
-        lefts.items rti.new.own) }
+    ensures recorded { IfOk result (λ lefts. RecordsTold (catalogue_from fed.now) catalogue.now
+        lines.now outcomes.new lefts.items rti.new) }
 {
     let execution = ExecutionName::new(b"play")?;
     let lives = open(rt, alloc, rti, execution, fed, lines, ambassadors, outcomes)?;
@@ -176,10 +181,12 @@ fn tell_on_threads<
 ) -> Result<Ran, RunFault>
     requires parts { L.parts ≡ ledger_parts }
     requires enough { joins lines.now ≤ length ambassadors }
+    requires handed { rti.handed ≡ 0 }
+    requires office { rti.own.transcript ≡ [] }
     ensures told { OnOk result (AreTold catalogue.now lines.now (W.contents out.old.inner)
         (W.contents out.new.inner)) }
-    ensures recorded { IfOk result (λ r. IsToldRecorded r.closed catalogue.now lines.now
-        (W.contents out.old.inner) (W.contents out.new.inner)) }
+    ensures recorded { IfOk result (λ r. IsToldRecorded r.closed (catalogue_from fed.now)
+        catalogue.now lines.now (W.contents out.old.inner) (W.contents out.new.inner)) }
     ensures seen { IfOk result (λ r. IsSeen is_watched r.closed r.seen) }
     ensures stopped { IfErr result (StopsTelling catalogue.now lines.now (W.contents out.old.inner)
         (W.contents out.new.inner)) }
@@ -267,7 +274,9 @@ pub fn run_scripts<
     // destroys or joins, the record of that. Or it is refused without a record, for one of the reasons that `IsLineRecorded` names:
     // a federate's line as of one that is not joined only where it has resigned, by another record, or where no line that joins
     // under its name is told to have joined one. All records of a federate in the history answer its lines, each another one, in
-    // the order of the lines, but for ticks with nothing that a line which ticks has spent before it was answered.
+    // the order of the lines, but for ticks with nothing that a line which ticks has spent before it was answered: 999 at most, and
+    // that a tick gave nothing is told of the thousandth alone. All records of the infrastructure itself answer lines, each another
+    // one: those that create and join in their order, and then those that destroy. All others are announcements and carries.
     ensures recorded { IfOk result (λ r. IsRunRecorded r.closed fed.now script.now
         (W.contents out.old.inner) (W.contents out.new.inner)) }
 

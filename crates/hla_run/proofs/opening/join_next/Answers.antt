@@ -1,4 +1,4 @@
-use Rattle.std.proofs.Common.{◌≡◌, ◌∙◌, List, ℕ, Ok, true, ap, inl, refl, subst, sym}
+use Rattle.std.proofs.Common.{◌≡◌, ◌∙◌, List, ℕ, Ok, true, ap, refl, subst, sym}
 use Rattle.std.specs.Result.{is_ok}
 use Rattle.std.proofs.lemmas.Bool.{cond-true}
 use Rattle.std.proofs.lemmas.Slice.Eq.{bytes_eq-Decides}
@@ -8,28 +8,33 @@ use Rattle.hla_machine.specs.declared.step.Outcome.TheVariants as outcome
 use Rattle.hla_machine.specs.declared.step.Step.TheVariants as step
 use Rattle.hla_callers.specs.Callers.{Caller, FederateCaller}
 use Rattle.hla_commands.specs.declared.lines.Command.TheVariants as command
-use Rattle.hla_run.specs.Recorded.{AreFresh, AreJoined, HasJoined, IsJoiningRecorded, KeepsLives, has_life}
+use Rattle.hla_run.specs.Accounted.{AddsLine}
+use Rattle.hla_run.specs.Recorded.{AreFresh, AreJoined, HasJoined, KeepsLives, has_life}
 use Rattle.hla_run.specs.declared.life.Life.{Life}
-use Rattle.hla_run.proofs.RecordLemmas.{acted_extended, acted_recorded, fresh_more, grown_within, joined_in, joined_more, refused_joining}
+use Rattle.hla_run.proofs.OfficeLemmas.{line_joined, line_refused}
+use Rattle.hla_run.proofs.RecordLemmas.{acted_extended, acted_recorded, fresh_more, grown_within, joined_in, joined_more}
 use Rattle.hla_run.proofs.StrangerLemmas.{life_last, lives_more}
 use Rattle.hla_run.proofs.opening.join_next.Goals as goal
 
-pub returns-in-Err-clause-recorded : goal.returns-in-Err-clause-recorded
-returns-in-Err-clause-recorded g c =
+pub returns-in-Err-clause-office : goal.returns-in-Err-clause-office
+returns-in-Err-clause-office g c = λ read.
+    let handed = c.args.rti.now.handed in
+    let old = c.args.rti.now.own in
     let own = c.join.new.self.own in
-    let told = refused_joining c.args.rti.now.own own c.args.execution c.in_ok-name.name _ _ c.in-Err.ensures.refused in
-    subst (λ (n : List ℕ). IsJoiningRecorded own.transcript n (outcome.Refused c.in-Err.fault)) c.in_ok-name.ensures told
+    let told = line_refused read handed c.args.execution c.in_ok-name.name c.in-Err.fault old own c.in-Err.ensures.refused in
+    subst (λ (n : List ℕ). AddsLine read handed c.args.execution (command.Join n) (outcome.Refused c.in-Err.fault) old own) c.in_ok-name.ensures told
 
-pub returns-clause-recorded : goal.returns-clause-recorded
-returns-clause-recorded g c =
+pub returns-clause-office : goal.returns-clause-office
+returns-clause-office g c = λ read.
+    let handed = c.args.rti.now.handed in
+    let old = c.args.rti.now.own in
     let own = c.join.new.self.own in
     let execution = c.args.execution in
     let f = c.in-Ok.federate.federate in
-    let told = acted_recorded c.args.rti.now.own own execution (act.Step (step.Join c.in_ok-name.name)) (outcome.Done (answer.Federate f)) (Ok (answer.Federate f)) refl c.in-Ok.ensures.joined in
-    let named = subst (λ (n : List ℕ). HasJoined own.transcript execution n f) c.in_ok-name.ensures told in
-    let numbered = subst (λ (k : ℕ). HasJoined own.transcript execution c.args.name.now k) (sym c.number-number.ensures) named in
-    let last = subst (λ (x : Caller). HasJoined x.transcript execution c.args.name.now c.number-number.result) (sym c.courier.ensures.own) numbered in
-    inl (execution, inl last)
+    let told = line_joined read handed execution c.in_ok-name.name f old own c.in-Ok.ensures.joined in
+    let named = subst (λ (n : List ℕ). AddsLine read handed execution (command.Join n) (outcome.Done (answer.Federate f)) old own) c.in_ok-name.ensures told in
+    let numbered = subst (λ (k : ℕ). AddsLine read handed execution (command.Join c.args.name.now) (outcome.Done (answer.Federate k)) old own) (sym c.number-number.ensures) named in
+    subst (λ (x : Caller). AddsLine read handed execution (command.Join c.args.name.now) (outcome.Done (answer.Federate c.number-number.result)) old x) (sym c.courier.ensures.own) numbered
 
 pub returns-clause-fresh : goal.returns-clause-fresh
 returns-clause-fresh g c = λ before.

@@ -7,7 +7,7 @@ use Rattle.hla_outcomes.specs.declared.outcomes.LineOutcome.{LineOutcome}
 use Rattle.hla_run.proofs.RecordLemmas.{kept_noted, kept_same, line_at, stranger_aside, telling_aside}
 use Rattle.hla_commands.specs.declared.lines.Command.TheVariants as command
 use Rattle.hla_run.specs.Recorded.{has_life, is_stranger}
-use Rattle.hla_run.proofs.StrangerLemmas.{joinings_noted, joinings_same, other_line}
+use Rattle.hla_run.proofs.StrangerLemmas.{openings_noted, openings_same, other_line}
 use Rattle.hla_run.proofs.opening.refuse_strangers.Goals.{in-Federate+then-not-has_joined, in-Federate+else-not-has_joined, in_default}
 use Rattle.hla_run.proofs.opening.refuse_strangers.Goals as goal
 
@@ -35,11 +35,11 @@ loop-place-preserved g c =
         | in-Federate+else-not-has_joined w ↦ kept_same lines stranger c.args.outcomes.now before c.match-line.outcomes kept.recorded w.outcomes-is
         | in_default w ↦ kept_same lines stranger c.args.outcomes.now before c.match-line.outcomes kept.recorded w.outcomes-is
       ];
-      joinings = elim c.match-line.branch [
+      openings = elim c.match-line.branch [
         | in-Federate+then-not-has_joined w ↦
-            joinings_noted lines c.args.outcomes.now before c.match-line.outcomes told kept.joinings (w.outcomes-is ∙ w.note.ensures.noted)
-            (other_line lines c.loop-place.place l at (λ name is. let clash : command.Federate w.in-Federate.name w.in-Federate.call ≡ command.Join name = sym w.in-Federate.is ∙ is in cc))
-        | in-Federate+else-not-has_joined w ↦ joinings_same lines c.args.outcomes.now before c.match-line.outcomes kept.joinings w.outcomes-is
-        | in_default w ↦ joinings_same lines c.args.outcomes.now before c.match-line.outcomes kept.joinings w.outcomes-is
+            openings_noted lines c.args.outcomes.now before c.match-line.outcomes told kept.openings (w.outcomes-is ∙ w.note.ensures.noted)
+            (other_line lines c.loop-place.place l (command.Federate w.in-Federate.name w.in-Federate.call) at w.in-Federate.is (λ opens. opens))
+        | in-Federate+else-not-has_joined w ↦ openings_same lines c.args.outcomes.now before c.match-line.outcomes kept.openings w.outcomes-is
+        | in_default w ↦ openings_same lines c.args.outcomes.now before c.match-line.outcomes kept.openings w.outcomes-is
       ];
     }

@@ -1,5 +1,5 @@
 use Rattle.std.proofs.Common.{◌≡◌, length}
-use Rattle.hla_run.specs.Recorded.{GathersCalls, GathersInTurn, GathersRecorded}
+use Rattle.hla_run.specs.Recorded.{GathersCallers, GathersCalls, GathersInTurn, GathersRecorded}
 use Rattle.hla_run.proofs.runner.gather_all.Given as goal
 
 -- of the lives so far
@@ -9,4 +9,5 @@ invariant-loop-life g l = record {
   recorded : GathersRecorded l.yielded l.lefts.items l.fn.outcomes l.outcomes;
   calls : GathersCalls l.yielded l.fn.outcomes l.outcomes;
   turns : GathersInTurn l.yielded l.lefts.items l.outcomes;
+  callers : GathersCallers l.yielded l.lefts.items;
 }

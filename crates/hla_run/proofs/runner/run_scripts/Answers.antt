@@ -1,7 +1,7 @@
 use Rattle.std.proofs.Common.{◌≡◌, List, Ok, sym, subst}
 use Rattle.hla_commands.specs.Script.{script_of}
 use Rattle.hla_commands.specs.declared.lines.Line.{Line}
-use Rattle.hla_run.proofs.RecordLemmas.{run_recorded}
+use Rattle.hla_run.proofs.WholeLemmas.{run_recorded}
 use Rattle.hla_run.proofs.runner.run_scripts.Goals as goal
 
 pub returns-clause-recorded : goal.returns-clause-recorded

@@ -15,5 +15,5 @@ loop-line-preserved g c =
     let more = joins_more c.args.lines.now c.loop-line.line-index c.line-item.result c.loop-line-test.true c.line-item.is in (
       omega (arith, more, left, c.loop-line.invariant.0),
       led_more c.args.catalogue.now c.args.fed.now c.args.lines.now c.loop-line.line-index c.line-item.result c.loop-line.outcomes c.add.new.self c.in_ok-outcome.outcome c.loop-line.rti c.line.new.rti c.loop-line.self c.line.new.self
-          c.loop-line.invariant.1 c.loop-line-test.true c.line-item.is c.in_ok-outcome.ensures.led c.in_ok-add.ensures,
+          c.loop-line.invariant.1 c.loop-line-test.true c.line-item.is c.in_ok-outcome.ensures.led c.in_ok-add.ensures.added,
     )

@@ -7,7 +7,7 @@ use Rattle.hla_players.specs.Deeds.{caller_of}
 use Rattle.hla_run.specs.Recorded.{AreAnsweredInTurn, AreOwnTellings, IsOwnTelling}
 use Rattle.hla_run.specs.declared.life.Life.{Life}
 use Rattle.hla_outcomes.specs.declared.outcomes.LineOutcome.{LineOutcome}
-use Rattle.hla_run.proofs.AnswerLemmas.{told_one, turn_added}
+use Rattle.hla_run.proofs.AnswerLemmas.{added_recorded, told_one, turn_added}
 use Rattle.hla_run.proofs.RecordLemmas.{grown_within, own_tellings_in}
 use Rattle.hla_run.proofs.life.Life.next.Goals.{then-lacks_memory, else-lacks_memory}
 use Rattle.hla_run.proofs.life.Life.next.Goals as goal
@@ -19,9 +19,11 @@ returns-clause-recorded g c = λ execution recorded.
     let lines = c.args.stage.now.lines.now in
     let now = (caller_of c.do_call-player.result.player).transcript in
     let told : LineOutcome = record { place = c.args.place; outcome = c.do_call-player.result.outcome } in
-    let within = grown_within (caller_of life.player) (caller_of c.do_call-player.result.player) c.do_call-player.ensures.extended in
+    let adds = c.do_call-player.ensures.added execution life.number recorded.0 in
+    let both = added_recorded catalogue execution life.number c.args.call.now c.do_call-player.result.outcome (caller_of life.player) (caller_of c.do_call-player.result.player) adds in
+    let within = grown_within (caller_of life.player) (caller_of c.do_call-player.result.player) both.0 in
     let before = own_tellings_in catalogue lines now (caller_of life.player).transcript execution life.number life.name life.told.items within recorded.1 in
-    let telling : IsOwnTelling catalogue lines now execution life.number life.name told = (c.args.call.now, c.requires, c.do_call-player.ensures.recorded execution life.number recorded.0) in
+    let telling : IsOwnTelling catalogue lines now execution life.number life.name told = (c.args.call.now, c.requires, both.1) in
     let old = caller_of life.player in
     let new = caller_of c.do_call-player.result.player in
     let lacking : is_ok c.push.result ≡ false → c.if-lacks_memory.result ≡ true = λ n.
@@ -38,7 +40,7 @@ returns-clause-recorded g c = λ execution recorded.
       elim recorded.2 [
         | inl lacks ↦ inl (keeps lacks)
         | inr turns ↦
-            let added = turn_added catalogue lines execution life.number life.name old new life.told.items told c.args.call.now within turns c.requires (c.do_call-player.ensures.added execution life.number recorded.0) in
+            let added = turn_added catalogue lines execution life.number life.name old new life.told.items told c.args.call.now within turns c.requires adds in
             elim (cases_Bool (is_ok c.push.result)) [ inl y ↦ inr (subst InTurn (sym (c.push.ensures.items ∙ cond-true _ _ _ y)) added) | inr n ↦ inl (lacking n) ]
       ],
     )

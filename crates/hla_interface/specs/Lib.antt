@@ -1,0 +1,2 @@
+-- What couriers do
+pub mod Exchanges
