@@ -30,7 +30,7 @@ use Rattle.hla_requests.specs.declared.lookups.AskFault.TheVariants as stop
 use Rattle.hla_callers.specs.Callers.{Caller, FederateCaller, Leaver, Office, HasActed, HasNotActed, HasAnswered, answer_given, new_caller}
 use Rattle.hla_in_order.specs.InOrder.{WithoutStep, Asked, Unrecorded, IsCaller, Does, IsRunInOrder, act_asked, number_joined, entrants, callers}
 use Rattle.hla_outcomes.specs.Running.{told_text}
-use Rattle.hla_callers.specs.Close.{AllAgree}
+use Rattle.hla_callers.specs.Close.{AllAgree, AreOfCallers}
 use Rattle.hla_in_order.specs.Players.{Stand, IsBook}
 use Rattle.std.specs.Io.KnownBytes.{Appends}
 use Rattle.std.proofs.lemmas.Bool.{cases_order}
@@ -106,7 +106,7 @@ module _ {L B P F : Type 0} where
 
   does_count : (ps qs : List (Option (Player L B P F))) (f : ℕ) (what : Deed) (out : Outcome) → DoesAt ps f what out qs → length qs ≡ length ps
   does_count ps qs f what out does = elim does [
-    | inl at ↦ ap (λ (rs : List (Option (Player L B P F))). length rs) at.6 ∙ length_set ps at.0 (Some at.2)
+    | inl at ↦ ap (λ (rs : List (Option (Player L B P F))). length rs) at.7 ∙ length_set ps at.0 (Some at.2)
     | inr none ↦ ap (λ (rs : List (Option (Player L B P F))). length rs) none.1
   ]
 
@@ -161,14 +161,14 @@ module _ {L B P F : Type 0} where
       → office'.handed ≡ office.handed → cast'.courier ≡ cast.courier → cast'.players.items ≡ cast.players.items → cast'.execution ≡ cast.execution
       → RequestLeads fed (request.Step (step.Join name)) (outcome.Refused e) office cast office' cast'
   unjoined_leads fed name e office office' cast cast' refused handed courier players plays = λ rs set.
-      let told : (HasActed office.own (codes "play") (act.Step (step.Join name)) (outcome.Refused e) office'.own ⊎ HasNotActed office.own e office'.own) ⊎ ((e ≡ fault.LimitReached) × (office'.own ≡ office.own)) = elim refused [
+      let told : (HasActed office.own (codes "play") (act.Step (step.Join name)) (outcome.Refused e) office'.own ⊎ HasNotActed office.own e office'.own) ⊎ ((e ≡ fault.LimitReached) × (max_callers ≤ office.handed) × (office'.own ≡ office.own)) = elim refused [
         | inl acts ↦ elim acts [
           | inl acted ↦ inl (inl (subst (λ (x : List ℕ). HasActed office.own x (act.Step (step.Join name)) (outcome.Refused e) office'.own) set.plays acted))
           | inr not ↦ inl (inr not)
         ]
-        | inr many ↦ inr (many.0, many.2)
+        | inr many ↦ inr many
       ] in
-      let led = unjoined_led fed rs name e office.own office'.own cast.courier cast.players.items set.stands told in (
+      let led = unjoined_led fed rs name e office.handed office.own office'.own cast.courier cast.players.items set.stands told set.counts in (
         led.0,
         led.1.0,
         record {
@@ -213,7 +213,7 @@ module _ {L B P F : Type 0} where
       → cast'.courier ≡ cast.courier → cast'.players.items ≡ cast.players.items → cast'.execution ≡ cast.execution → cast'.members.items ≡ cast.members.items → LineLeads c fed asks (outcome.Refused fault.OutOfMemory) office cast office cast'
   line_forgotten c fed asks office cast cast' meant courier players plays same = λ rs set joined.
       let behind : request_of c (members rs) asks ≡ Ok meant.0 = subst (λ (ms : List NamedFederate). request_of c ms asks ≡ Ok meant.0) joined meant.1 in
-      ([], Asked meant.0 behind (Unrecorded fault.OutOfMemory (not_acted meant.0 fault.OutOfMemory (inr refl)) refl refl), set_same rs office cast cast' courier players plays set, same ∙ joined ∙ ap members (sym (append_nil rs)))
+      ([], Asked meant.0 behind (Unrecorded fault.OutOfMemory (not_acted rs meant.0 fault.OutOfMemory (inr refl)) refl refl), set_same rs office cast cast' courier players plays set, same ∙ joined ∙ ap members (sym (append_nil rs)))
 
   -- ---- all lines
   pub led_first : (c : CatalogueValue) (fed : List ℕ) (lines : List Line) (told : List (Option Outcome)) (office : Office) (cast : Cast L B P F) → told ≡ [] → IsSet [] office cast → cast.members.items ≡ [] → HaveLed c fed (take 0 lines) told office cast
@@ -278,7 +278,7 @@ module _ {L B P F : Type 0} where
   pub have_ended : (c : CatalogueValue) (fed : List ℕ) (lines : List Line) (told : List (Option Outcome)) (office : Office) (cast : Cast L B P F) (lefts : List Leaver) → HaveLed c fed lines told office cast
       → ((rs : List Record) (o : Office) → IsSet rs o cast → HaveLeft rs lefts 1 (callers rs)) → HaveEnded c fed lines told office lefts
   have_ended c fed lines told office cast lefts led leaves =
-      record { outcomes = led.outcomes; records = led.records; does = led.does; tells = led.tells; own = led.set.stands.itself; left = leaves led.records office led.set }
+      record { outcomes = led.outcomes; records = led.records; does = led.does; tells = led.tells; own = led.set.stands.itself; left = leaves led.records office led.set; counts = omega (arith, led.set.counts, players_count led.records 2 (entrants led.records) cast.players.items led.set.stands.federates) }
 
 pub leave_ended : {L B P F V E : Type 0} (c : CatalogueValue) (fed : List ℕ) (lines : List Line) (told : List (Option Outcome)) (office : Office) (cast : Cast L B P F) (items : V → List Leaver) (left : Result V E) → HaveLed c fed lines told office cast
     → IfOk left (λ v. (rs : List Record) (o : Office) → IsSet rs o cast → HaveLeft rs (items v) 1 (callers rs)) → IfOk left (λ v. HaveEnded c fed lines told office (items v))
@@ -286,12 +286,12 @@ leave_ended c fed lines told office cast items (Ok v) led leaves = have_ended c 
 leave_ended c fed lines told office cast items (Err e) led leaves = tt
 
 pub are_done : (c : CatalogueValue) (fed : List ℕ) (lines : List Line) (told : List (Option Outcome)) (office : Office) (lefts : List Leaver) (old new : Option (List ℕ)) (history : List Record) → HaveEnded c fed lines told office lefts
-    → Appends old new (told_text c lines told) → AllAgree history lefts office.own → AreDone c fed lines old new history
-are_done c fed lines told office lefts old new history ended writes agree = record {
+    → Appends old new (told_text c lines told) → AllAgree history lefts office.own → AreOfCallers office.handed history → AreDone c fed lines old new history
+are_done c fed lines told office lefts old new history ended writes agree theirs = record {
   outcomes = ended.outcomes;
   records = ended.records;
   does = ended.does;
-  kept = has_just history ended.records lefts office.own agree ended.own ended.left;
+  kept = has_just history ended.records lefts office.own office.handed agree ended.own ended.left theirs ended.counts;
   writes = subst (λ (os : List (Option Outcome)). Appends old new (told_text c lines os)) ended.tells writes;
 }
 
@@ -311,9 +311,9 @@ run_done fed script c lines old new history describes says done = record {
 
 -- of a run that may have stopped
 pub ended_done : {E : Type 0} (c : CatalogueValue) (fed : List ℕ) (lines : List Line) (told : List (Option Outcome)) (office : Office) (lefts : List Leaver) (old new : Option (List ℕ)) (ran : Result Ran E) → HaveEnded c fed lines told office lefts
-    → OnOk ran (Appends old new (told_text c lines told)) → IfOk ran (λ r. AllAgree r.closed lefts office.own) → IfOk ran (λ r. AreDone c fed lines old new r.closed)
-ended_done c fed lines told office lefts old new (Ok r) ended writes agree = are_done c fed lines told office lefts old new r.closed ended writes agree
-ended_done c fed lines told office lefts old new (Err e) ended writes agree = tt
+    → OnOk ran (Appends old new (told_text c lines told)) → IfOk ran (λ r. AllAgree r.closed lefts office.own) → IfOk ran (λ r. AreOfCallers office.handed r.closed) → IfOk ran (λ r. AreDone c fed lines old new r.closed)
+ended_done c fed lines told office lefts old new (Ok r) ended writes agree theirs = are_done c fed lines told office lefts old new r.closed ended writes agree theirs
+ended_done c fed lines told office lefts old new (Err e) ended writes agree theirs = tt
 
 pub runs_done : {E : Type 0} (fed script : List ℕ) (c : CatalogueValue) (lines : List Line) (old new : Option (List ℕ)) (ran : Result Ran E) → Describes fed c → script_of script ≡ Ok lines → IfOk ran (λ r. AreDone c fed lines old new r.closed)
     → IfOk ran (λ r. IsRunInOrder fed script old new r.closed)

@@ -10,9 +10,11 @@ use Rattle.std.proofs.lemmas.Option.{slice_get_within}
 use Rattle.hla_machine.specs.declared.step.Record.{Record}
 use Rattle.hla_history.specs.Closing.{records_by}
 use Rattle.hla_callers.specs.Callers.{Caller, with_own, new_caller}
-use Rattle.hla_in_order.specs.InOrder.{entrants, callers, number_joined}
+use Rattle.hla_in_order.specs.InOrder.{HasResigning, HaveResigned, callers, entrants, number_joined}
 use Rattle.hla_in_order.specs.Players.{IsAs, IsBook, IsPlayer, ArePlayers, Stand}
+use Rattle.hla_in_order.specs.Turns.{IsJoinedAs, IsJoinedAt}
 use Rattle.hla_players.specs.declared.player.Player.{Player}
+use Rattle.hla_players.specs.declared.player.Player.TheVariants as player
 
 -- ---- one caller's part of the records
 by_more : (rs : List Record) (r : Record) (n : ℕ) → records_by n (rs ++ r ∷ []) ≡ records_by n rs ++ records_by n (r ∷ [])
@@ -88,6 +90,29 @@ module _ {L B P F : Type 0} where
   player_at rs n (suc k) (f ∷ fs) (q ∷ ps) p are at =
       let rest = player_at rs (n + 1) k fs ps p are.1 at in
       (rest.0, rest.1, subst (λ (m : ℕ). IsPlayer rs m rest.0 p) (omega arith) rest.2)
+
+  -- the one of a number that joined
+  player_of : (rs : List Record) (n k : ℕ) (fs : List ℕ) (ps : List (Option (Player L B P F))) (f : ℕ) → ArePlayers rs n fs ps → slice_get fs k ≡ Some f → (p : Option (Player L B P F)) × (slice_get ps k ≡ Some p) × IsPlayer rs (n + k) f p
+  player_of rs n k [] ps f are at = cc
+  player_of rs n k (g ∷ fs) [] f are at = absurd are
+  player_of rs n zero (g ∷ fs) (q ∷ ps) f are at =
+      let same : g ≡ f = cc in
+      (q, refl, subst (λ (m : ℕ). IsPlayer rs m f q) (omega arith) (subst (λ (h : ℕ). IsPlayer rs n h q) same are.0))
+  player_of rs n (suc k) (g ∷ fs) (q ∷ ps) f are at =
+      let rest = player_of rs (n + 1) k fs ps f are.1 at in
+      (rest.0, rest.1, subst (λ (m : ℕ). IsPlayer rs m f rest.0) (omega arith) rest.2)
+
+  slot_resigned : (rs : List Record) (n f : ℕ) (slot : Option (Player L B P F)) → IsPlayer rs n f slot → (IsJoinedAs f slot → ⊥) → HasResigning (records_by n rs) f
+  slot_resigned rs n f None is other = absurd is
+  slot_resigned rs n f (Some (player.Joined m)) is other = absurd (other is.1.0)
+  slot_resigned rs n f (Some (player.Gone l)) is other = subst (λ (xs : List Record). HasResigning xs f) is.0.1 is.1
+
+  -- where nobody is joined as the federate of a number, all who joined as that have resigned
+  pub have_resigned : (rs : List Record) (own courier : Caller) (ps : List (Option (Player L B P F))) (f : ℕ) → Stand rs own courier ps → ((k : ℕ) → IsJoinedAt ps k f → ⊥) → HaveResigned rs f
+  have_resigned rs own courier ps f s nobody = λ n entrant.
+      let there = player_of rs 2 entrant.0 (entrants rs) ps f s.federates entrant.2 in
+      let number : 2 + entrant.0 ≡ n = omega (arith, entrant.1) in
+      subst (λ (m : ℕ). HasResigning (records_by m rs) f) number (slot_resigned rs (2 + entrant.0) f there.0 there.2 (λ joined. nobody entrant.0 (there.0, there.1, joined)))
 
   -- that one acts
   pub players_acted : (rs : List Record) (r : Record) (n k : ℕ) (fs : List ℕ) (ps : List (Option (Player L B P F))) (old new : Player L B P F) → ArePlayers rs n fs ps → slice_get ps k ≡ Some (Some old)

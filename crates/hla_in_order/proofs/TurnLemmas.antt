@@ -1,13 +1,18 @@
 -- What the act of a caller adds.
-use Rattle.std.proofs.Common.{◌≡◌, ◌+◌, suc, arith, ℕ, List, [], ◌∷◌, ◌++◌, ◌⊎◌, inl, inr, Option, Some, Result, Ok, Err, length, refl, sym, ap, subst, ◌∙◌, codes}
+use Rattle.std.proofs.Common.{◌≡◌, ◌+◌, ◌<◌, ◌≤◌, suc, arith, ℕ, List, [], ◌∷◌, ◌++◌, ◌⊎◌, inl, inr, Option, None, Some, Result, Ok, Err, length, refl, sym, ap, subst, ◌∙◌, codes}
 use Rattle.std.specs.Prelude.{slice_get, slice_set, zero, IfOk, IfErr}
+use Rattle.std.specs.List.{Contains}
+use Rattle.std.proofs.lemmas.List.Elements.{Contains-push}
 use Rattle.std.proofs.lemmas.Option.{slice_get_within}
+use Rattle.hla_base.specs.Limits.{max_callers}
 use Rattle.hla_base.specs.declared.fault.Fault.{Fault}
 use Rattle.hla_base.specs.declared.fault.Fault.TheVariants as fault
 use Rattle.hla_callbacks.specs.declared.callback.Callback.{Callback}
 use Rattle.hla_catalogue.specs.CatalogueValue.{CatalogueValue}
 use Rattle.hla_commands.specs.declared.lines.Line.{Line}
+use Rattle.hla_machine.specs.declared.service.ResignAction.{ResignAction}
 use Rattle.hla_machine.specs.declared.service.Service.{Service}
+use Rattle.hla_machine.specs.declared.service.Service.TheVariants as service
 use Rattle.hla_machine.specs.declared.step.Act.TheVariants as act
 use Rattle.hla_machine.specs.declared.step.Answer.{Answer}
 use Rattle.hla_machine.specs.declared.step.Answer.TheVariants as answer
@@ -24,21 +29,40 @@ use Rattle.hla_requests.specs.declared.steps.Request.TheVariants as request
 use Rattle.hla_requests.specs.Members.{members, members_from, member_after, with_change, with_create, change_of}
 use Rattle.hla_history.specs.Closing.{records_by}
 use Rattle.hla_callers.specs.Callers.{Caller, FederateCaller, Leaver, HasActed, HasNotActed, answer_given, said, nothing, new_caller}
-use Rattle.hla_callers.specs.Close.{AllAgree}
-use Rattle.hla_in_order.specs.InOrder.{RequestEnds, Unrecorded, Recorded, LineComesOut, Does, IsUnrecorded, IsCaller, IsStepper, IsEntrant, act_asked, number_joined, entrants, callers, HasJust}
+use Rattle.hla_callers.specs.Close.{AllAgree, AreOfCallers}
+use Rattle.hla_in_order.specs.InOrder.{RequestEnds, Unrecorded, Recorded, LineComesOut, Does, IsUnrecorded, IsCaller, IsStepper, IsEntrant, HasResigning, act_asked, number_joined, entrants, callers, HasJust}
 use Rattle.hla_in_order.specs.Players.{IsAs, IsBook, Stand}
-use Rattle.hla_in_order.specs.Turns.{DoesIn, IsJoinedAs, IsJoinedAt, DoesAt, Led, members_noted, HasLeft, HaveLeft}
-use Rattle.hla_players.specs.Deeds.{caller_of, HasTold, StaysAs}
+use Rattle.hla_in_order.specs.Turns.{DoesIn, IsJoinedAs, IsJoinedAt, IsUnjoined, DoesAt, Led, members_noted, HasLeft, HaveLeft}
+use Rattle.hla_players.specs.Deeds.{caller_of, DoesDeed, HasDone, HasTold, IsGoneBy}
 use Rattle.hla_players.specs.declared.player.Player.{Player}
 use Rattle.hla_players.specs.declared.player.Player.TheVariants as player
 use Rattle.hla_players.specs.declared.player.Deed.{Deed}
 use Rattle.hla_players.specs.declared.player.Deed.TheVariants as deed
-use Rattle.hla_in_order.proofs.StandLemmas.{itself_acted, courier_acted, player_acted, federate_joined, nothing_added, player_at, players_kept}
+use Rattle.hla_in_order.proofs.StandLemmas.{itself_acted, courier_acted, player_acted, federate_joined, have_resigned, nothing_added, player_at, players_count, players_kept}
 
-pub not_acted : (asked : Request) (e : Fault) → (e ≡ fault.HistoryFull) ⊎ (e ≡ fault.OutOfMemory) → IsUnrecorded asked e
-not_acted request.Create e why = why
-not_acted request.Destroy e why = why
-not_acted (request.Step s) e why = inl why
+pub not_acted : (rs : List Record) (asked : Request) (e : Fault) → (e ≡ fault.HistoryFull) ⊎ (e ≡ fault.OutOfMemory) → IsUnrecorded rs asked e
+not_acted rs request.Create e why = why
+not_acted rs request.Destroy e why = why
+not_acted rs (request.Step s) e why = inl why
+
+pub no_place : (o : Option ℕ) → ((k : ℕ) → o ≡ Some k → ⊥) → o ≡ None
+no_place None other = refl
+no_place (Some k) other = absurd (other k refl)
+
+-- an outcome that answers this was done
+done_only : (o : Outcome) (a : Answer) → answer_given o ≡ Ok a → o ≡ outcome.Done a
+done_only (outcome.Done b) a is = let same : b ≡ a = cc in ap (λ (x : Answer). outcome.Done x) same
+done_only (outcome.Refused e) a is = absurd (cc)
+done_only (outcome.Failed k) a is = absurd (cc)
+
+-- a resigning that is told as done is in the transcript
+told_resigning : (old new : Caller) (execution : List ℕ) (f : ℕ) (way : ResignAction) (out : Outcome) → out ≡ outcome.Done answer.Done → HasTold old execution (act.Step (step.Call f (service.Resign way))) out new → HasResigning new.transcript f
+told_resigning old new execution f way out is told = elim told [
+  | inl acted ↦
+      let r : Record = record { actor = old.number; execution = execution; act = act.Step (step.Call f (service.Resign way)); outcome = acted.0; choice = acted.2.0 } in
+      (way, r, subst (λ (xs : List Record). Contains xs r) (sym (ap (λ (c : Caller). c.transcript) acted.2.1)) (Contains-push old.transcript r), refl, done_only acted.0 answer.Done (sym acted.1 ∙ ap answer_given is))
+  | inr not ↦ let clash : outcome.Done answer.Done ≡ outcome.Refused not.0 = sym is ∙ not.1 in absurd (cc)
+]
 
 set_here : {X : Type 0} (xs : List X) (k : ℕ) (x : X) → slice_get xs k ≡ Some x → slice_set xs k x ≡ xs
 set_here [] k x at = refl
@@ -46,15 +70,21 @@ set_here {X = X} (y ∷ xs) zero x at = let same : y ≡ x = cc in ap (λ (z : X
 set_here {X = X} (y ∷ xs) (suc k) x at = ap (λ (zs : List X). y ∷ zs) (set_here xs k x at)
 
 module _ {L B P F : Type 0} where
+  unjoined_not : (f : ℕ) (slot : Option (Player L B P F)) → IsUnjoined slot → IsJoinedAs f slot → ⊥
+  unjoined_not f None none joined = joined
+  unjoined_not f (Some (player.Joined m)) none joined = none m refl
+  unjoined_not f (Some (player.Gone l)) none joined = joined
+
   -- at its place
   pub does_at : (ps qs : List (Option (Player L B P F))) (k f : ℕ) (what : Deed) (out : Outcome) (old new : Option (Player L B P F)) → IsJoinedAt ps k f → slice_get ps k ≡ Some old → DoesIn old what out new → qs ≡ slice_set ps k new → DoesAt ps f what out qs
   does_at ps qs k f what out old new joined at does sets =
       let same : joined.0 ≡ old = let e : Some joined.0 ≡ Some old = sym joined.1 ∙ at in cc in
+      let here : IsJoinedAs f old = subst (λ (o : Option (Player L B P F)). IsJoinedAs f o) same joined.2 in
       elim does [
         | inl done ↦
-            let named : done.0.federate ≡ f = subst (λ (o : Option (Player L B P F)). IsJoinedAs f o) (same ∙ done.2) joined.2 in
-            inl (k, done.0, done.1, at ∙ ap (λ (o : Option (Player L B P F)). Some o) done.2, named, done.3, sets ∙ ap (λ (o : Option (Player L B P F)). slice_set ps k o) done.4)
-        | inr none ↦ inr (none.0, sets ∙ ap (λ (o : Option (Player L B P F)). slice_set ps k o) none.1 ∙ set_here ps k old at)
+            let named : done.0.federate ≡ f = subst (λ (o : Option (Player L B P F)). IsJoinedAs f o) done.2 here in
+            inl (k, done.0, done.1, at ∙ ap (λ (o : Option (Player L B P F)). Some o) done.2, named, done.3, done.4, sets ∙ ap (λ (o : Option (Player L B P F)). slice_set ps k o) done.5)
+        | inr none ↦ absurd (unjoined_not f old none.2 here)
       ]
 
   -- ---- what a caller's act leads to
@@ -65,7 +95,7 @@ module _ {L B P F : Type 0} where
     | inl acted ↦
         let r : Record = record { actor = own.number; execution = codes "play"; act = act_asked fed asked; outcome = acted.0; choice = acted.2.0 } in
         (r ∷ [], (Recorded own.number acted.0 acted.2.0 caller acted.1 refl, itself_acted rs r own new courier ps s refl acted.2.1 (none acted.0)))
-    | inr not ↦ ([], (Unrecorded not.0 (not_acted asked not.0 not.2.0) not.1 refl, subst (λ (c : Caller). Stand (rs ++ []) c courier ps) (sym not.2.1) (nothing_added rs own courier ps s)))
+    | inr not ↦ ([], (Unrecorded not.0 (not_acted rs asked not.0 not.2.0) not.1 refl, subst (λ (c : Caller). Stand (rs ++ []) c courier ps) (sym not.2.1) (nothing_added rs own courier ps s)))
   ]
 
   -- of the courier
@@ -75,18 +105,21 @@ module _ {L B P F : Type 0} where
     | inl acted ↦
         let r : Record = record { actor = courier.number; execution = codes "play"; act = act_asked fed asked; outcome = acted.0; choice = acted.2.0 } in
         (r ∷ [], (Recorded courier.number acted.0 acted.2.0 caller acted.1 refl, courier_acted rs r own courier new ps s refl acted.2.1 (none acted.0)))
-    | inr not ↦ ([], (Unrecorded not.0 (not_acted asked not.0 not.2.0) not.1 refl, subst (λ (c : Caller). Stand (rs ++ []) own c ps) (sym not.2.1) (nothing_added rs own courier ps s)))
+    | inr not ↦ ([], (Unrecorded not.0 (not_acted rs asked not.0 not.2.0) not.1 refl, subst (λ (c : Caller). Stand (rs ++ []) own c ps) (sym not.2.1) (nothing_added rs own courier ps s)))
   ]
 
-  stays_as : (m : FederateCaller) (p : Player L B P F) → StaysAs m p → (f : ℕ) → IsAs {L = L} {B = B} {P = P} {F = F} f (player.Joined m) → IsAs f p
-  stays_as m (player.Joined new) stays f is = (stays.0 ∙ is.0, stays.1 ∙ is.1)
-  stays_as m (player.Gone l) stays f is = tt
+  -- a federate stays the same while it is joined, and is gone once it has resigned
+  stays_as : (m : FederateCaller) (what : Deed) (out : Outcome) (p : Player L B P F) → DoesDeed m what out p → IsGoneBy what out p → (f : ℕ) → IsAs {L = L} {B = B} {P = P} {F = F} f (player.Joined m) → IsAs f p
+  stays_as m what out (player.Joined new) does gone f is = (does.1.0 ∙ is.0, does.1.1 ∙ is.1)
+  stays_as m what out (player.Gone l) does gone f is =
+      let told : HasTold m.caller m.execution (act.Step (step.Call m.federate (service.Resign gone.0))) out l.caller = subst (λ (d : Deed). HasDone m.caller m.execution m.federate d out l.caller) gone.1 does.0 in
+      subst (λ (g : ℕ). HasResigning l.caller.transcript g) is.0 (told_resigning m.caller l.caller m.execution m.federate gone.0 out gone.2 told)
 
   -- of a federate
   federate_led : (fed : List ℕ) (rs : List Record) (asks : Step) (f k : ℕ) (out : Outcome) (own courier : Caller) (ps : List (Option (Player L B P F))) (m : FederateCaller) (p : Player L B P F) → Stand rs own courier ps
-      → slice_get ps k ≡ Some (Some (player.Joined m)) → m.federate ≡ f → HasTold m.caller m.execution (act.Step asks) out (caller_of p) → StaysAs m p
-      → ((n : ℕ) → IsEntrant rs f n → IsStepper rs asks n) → ((o : Outcome) → number_joined (act.Step asks) o ≡ []) → Led fed rs (request.Step asks) out own courier (slice_set ps k (Some p))
-  federate_led fed rs asks f k out own courier ps m p s at named told stays stepper none =
+      → slice_get ps k ≡ Some (Some (player.Joined m)) → m.federate ≡ f → HasTold m.caller m.execution (act.Step asks) out (caller_of p)
+      → ((g : ℕ) → IsAs {L = L} {B = B} {P = P} {F = F} g (player.Joined m) → IsAs g p) → ((n : ℕ) → IsEntrant rs f n → IsStepper rs asks n) → ((o : Outcome) → number_joined (act.Step asks) o ≡ []) → Led fed rs (request.Step asks) out own courier (slice_set ps k (Some p))
+  federate_led fed rs asks f k out own courier ps m p s at named told keeps stepper none =
       let there = player_at rs 2 k (entrants rs) ps (Some (player.Joined m)) s.federates at in
       let place : m.caller.number ≡ k + 2 = omega (arith, there.2.0.0) in
       let entered : slice_get (entrants rs) k ≡ Some f = there.1 ∙ ap (λ (n : ℕ). Some n) (sym there.2.1.0 ∙ named) in
@@ -98,10 +131,10 @@ module _ {L B P F : Type 0} where
               r ∷ [],
               (
                 Recorded m.caller.number acted.0 acted.2.0 (stepper m.caller.number (k, place, entered)) acted.1 same,
-                player_acted rs r own courier ps k (player.Joined m) p s at refl acted.2.1 (stays_as m p stays) (none acted.0),
+                player_acted rs r own courier ps k (player.Joined m) p s at refl acted.2.1 keeps (none acted.0),
               ),
             )
-        | inr not ↦ ([], (Unrecorded not.0 (inl not.2.0) not.1 refl, nothing_added rs own courier (slice_set ps k (Some p)) (players_kept rs own courier ps k (player.Joined m) p s at not.2.1 (stays_as m p stays))))
+        | inr not ↦ ([], (Unrecorded not.0 (inl not.2.0) not.1 refl, nothing_added rs own courier (slice_set ps k (Some p)) (players_kept rs own courier ps k (player.Joined m) p s at not.2.1 keeps)))
       ]
 
   -- of the federate of a number, or of none
@@ -110,9 +143,9 @@ module _ {L B P F : Type 0} where
   call_led fed rs x f out own courier ps new s does = elim does [
     | inl at ↦
         let told = subst (λ (g : ℕ). HasTold at.1.caller at.1.execution (act.Step (step.Call g x)) out (caller_of at.2)) at.4 at.5.0 in
-        subst (λ (qs : List (Option (Player L B P F))). Led fed rs (request.Step (step.Call f x)) out own courier qs) (sym at.6)
-        (federate_led fed rs (step.Call f x) f at.0 out own courier ps at.1 at.2 s at.3 at.4 told at.5.1 (λ n is. is) (λ o. refl))
-    | inr none ↦ ([], (Unrecorded fault.FederateNotExecutionMember (inr refl) none.0 refl, subst (λ (qs : List (Option (Player L B P F))). Stand (rs ++ []) own courier qs) (sym none.1) (nothing_added rs own courier ps s)))
+        subst (λ (qs : List (Option (Player L B P F))). Led fed rs (request.Step (step.Call f x)) out own courier qs) (sym at.7)
+        (federate_led fed rs (step.Call f x) f at.0 out own courier ps at.1 at.2 s at.3 at.4 told (stays_as at.1 (deed.Serve x) out at.2 at.5 at.6) (λ n is. is) (λ o. refl))
+    | inr none ↦ ([], (Unrecorded fault.FederateNotExecutionMember (inr (refl, have_resigned rs own courier ps f s none.2)) none.0 refl, subst (λ (qs : List (Option (Player L B P F))). Stand (rs ++ []) own courier qs) (sym none.1) (nothing_added rs own courier ps s)))
   ]
 
   pub tick_led : (fed : List ℕ) (rs : List Record) (f : ℕ) (out : Outcome) (own courier : Caller) (ps new : List (Option (Player L B P F))) → Stand rs own courier ps → DoesAt ps f deed.Tick out new
@@ -120,9 +153,9 @@ module _ {L B P F : Type 0} where
   tick_led fed rs f out own courier ps new s does = elim does [
     | inl at ↦
         let told = subst (λ (g : ℕ). HasTold at.1.caller at.1.execution (act.Step (step.Tick g)) out (caller_of at.2)) at.4 at.5.0 in
-        subst (λ (qs : List (Option (Player L B P F))). Led fed rs (request.Step (step.Tick f)) out own courier qs) (sym at.6)
-        (federate_led fed rs (step.Tick f) f at.0 out own courier ps at.1 at.2 s at.3 at.4 told at.5.1 (λ n is. is) (λ o. refl))
-    | inr none ↦ ([], (Unrecorded fault.FederateNotExecutionMember (inr refl) none.0 refl, subst (λ (qs : List (Option (Player L B P F))). Stand (rs ++ []) own courier qs) (sym none.1) (nothing_added rs own courier ps s)))
+        subst (λ (qs : List (Option (Player L B P F))). Led fed rs (request.Step (step.Tick f)) out own courier qs) (sym at.7)
+        (federate_led fed rs (step.Tick f) f at.0 out own courier ps at.1 at.2 s at.3 at.4 told (stays_as at.1 deed.Tick out at.2 at.5 at.6) (λ n is. is) (λ o. refl))
+    | inr none ↦ ([], (Unrecorded fault.FederateNotExecutionMember (inr (refl, have_resigned rs own courier ps f s none.2)) none.0 refl, subst (λ (qs : List (Option (Player L B P F))). Stand (rs ++ []) own courier qs) (sym none.1) (nothing_added rs own courier ps s)))
   ]
 
   -- of one who joins
@@ -138,17 +171,20 @@ module _ {L B P F : Type 0} where
         ),
       )
 
-  pub unjoined_led : (fed : List ℕ) (rs : List Record) (name : List ℕ) (e : Fault) (own new courier : Caller) (ps : List (Option (Player L B P F))) → Stand rs own courier ps
-      → (HasActed own (codes "play") (act.Step (step.Join name)) (outcome.Refused e) new ⊎ HasNotActed own e new) ⊎ ((e ≡ fault.LimitReached) × (new ≡ own))
-      → Led fed rs (request.Step (step.Join name)) (outcome.Refused e) new courier ps
-  unjoined_led fed rs name e own new courier ps s refused = elim refused [
+  pub unjoined_led : (fed : List ℕ) (rs : List Record) (name : List ℕ) (e : Fault) (handed : ℕ) (own new courier : Caller) (ps : List (Option (Player L B P F))) → Stand rs own courier ps
+      → (HasActed own (codes "play") (act.Step (step.Join name)) (outcome.Refused e) new ⊎ HasNotActed own e new) ⊎ ((e ≡ fault.LimitReached) × (max_callers ≤ handed) × (new ≡ own))
+      → handed ≡ length ps + 1 → Led fed rs (request.Step (step.Join name)) (outcome.Refused e) new courier ps
+  unjoined_led fed rs name e handed own new courier ps s refused counts = elim refused [
     | inl told ↦ elim told [
       | inl acted ↦
           let r : Record = record { actor = own.number; execution = codes "play"; act = act.Step (step.Join name); outcome = outcome.Refused e; choice = acted.0 } in
           (r ∷ [], (Recorded own.number (outcome.Refused e) acted.0 s.itself.0 refl refl, itself_acted rs r own new courier ps s refl acted.1 refl))
       | inr not ↦ ([], (Unrecorded e (inl not.0) refl refl, subst (λ (c : Caller). Stand (rs ++ []) c courier ps) (sym not.1) (nothing_added rs own courier ps s)))
     ]
-    | inr many ↦ ([], (Unrecorded e (inr many.0) refl refl, subst (λ (c : Caller). Stand (rs ++ []) c courier ps) (sym many.1) (nothing_added rs own courier ps s)))
+    | inr many ↦
+        let joined = players_count rs 2 (entrants rs) ps s.federates in
+        let all : max_callers < callers rs = omega (arith, many.1, counts, joined) in
+        ([], (Unrecorded e (inr (many.0, all)) refl refl, subst (λ (c : Caller). Stand (rs ++ []) c courier ps) (sym many.2) (nothing_added rs own courier ps s)))
   ]
 
 -- ---- who has joined
@@ -251,9 +287,13 @@ pub left_last : (rs : List Record) (lefts : List Leaver) (x : Leaver) (n : ℕ) 
 left_last rs lefts x n book = (length lefts, x, get_last lefts x, book)
 
 -- where all transcripts are the history's, the history has just these records of each
-pub has_just : (history rs : List Record) (lefts : List Leaver) (own : Caller) → AllAgree history lefts own → IsBook rs 0 own → HaveLeft rs lefts 1 (callers rs) → HasJust history rs
-has_just history rs lefts own agree book left zero below =
+books_of : (history rs : List Record) (lefts : List Leaver) (own : Caller) → AllAgree history lefts own → IsBook rs 0 own → HaveLeft rs lefts 1 (callers rs) → (n : ℕ) → n < callers rs → records_by n history ≡ records_by n rs
+books_of history rs lefts own agree book left zero below =
     sym (agree.1 ∙ ap (λ (n : ℕ). records_by n history) book.0) ∙ book.1
-has_just history rs lefts own agree book left (suc n) below =
+books_of history rs lefts own agree book left (suc n) below =
     let there = left (suc n) (omega arith) below in
     sym (agree.0 there.0 there.1 (slice_get_within lefts there.0 there.1 there.2) there.2 ∙ ap (λ (m : ℕ). records_by m history) there.3.0) ∙ there.3.1
+
+-- and there are no others, as no more callers were handed out
+pub has_just : (history rs : List Record) (lefts : List Leaver) (own : Caller) (handed : ℕ) → AllAgree history lefts own → IsBook rs 0 own → HaveLeft rs lefts 1 (callers rs) → AreOfCallers handed history → handed + 1 ≡ callers rs → HasJust history rs
+has_just history rs lefts own handed agree book left theirs counts = (books_of history rs lefts own agree book left, λ k d below. omega (arith, counts, theirs k d below))

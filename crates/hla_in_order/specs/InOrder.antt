@@ -1,7 +1,8 @@
 -- What the lines of a script do behind the lock, one after another on one thread
 use Rattle.std.specs.Prelude.{map, ◌≡◌, ◌⊎◌, ◌+◌, ◌<◌, ℕ, List, [], ◌∷◌, ◌++◌, length, Option, Some, Ok, Err, codes, slice_get}
-use Rattle.std.specs.List.{flat_map}
+use Rattle.std.specs.List.{All, Contains, flat_map}
 use Rattle.std.specs.Io.KnownBytes.{Appends}
+use Rattle.hla_base.specs.Limits.{max_callers}
 use Rattle.hla_base.specs.declared.fault.Fault.{Fault}
 use Rattle.hla_base.specs.declared.fault.Fault.TheVariants as fault
 use Rattle.hla_catalogue.specs.CatalogueValue.{CatalogueValue}
@@ -12,6 +13,8 @@ use Rattle.hla_fed_file.specs.Grammar.{Describes}
 use Rattle.hla_outcomes.specs.Running.{told_text, IsCutText, IsUnread}
 use Rattle.hla_outcomes.specs.declared.fault.RunFault.{RunFault}
 use Rattle.hla_outcomes.specs.declared.fault.RunFault.TheVariants as stop
+use Rattle.hla_machine.specs.declared.service.ResignAction.{ResignAction}
+use Rattle.hla_machine.specs.declared.service.Service.TheVariants as service
 use Rattle.hla_machine.specs.declared.step.Act.{Act}
 use Rattle.hla_machine.specs.declared.step.Act.TheVariants as act
 use Rattle.hla_machine.specs.declared.step.Answer.TheVariants as answer
@@ -63,25 +66,37 @@ act_asked fed request.Create = act.Create (catalogue_from fed)
 act_asked fed request.Destroy = act.Destroy
 act_asked fed (request.Step s) = act.Step s
 
-abbrev pub IsMissed : Step → Fault → Type 0
-IsMissed (step.Join name) e = e ≡ fault.LimitReached
-IsMissed (step.Carry from to) e = ⊥
-IsMissed (step.Announce f) e = ⊥
-IsMissed (step.Call f s) e = e ≡ fault.FederateNotExecutionMember
-IsMissed (step.Tick f) e = e ≡ fault.FederateNotExecutionMember
+-- how many callers there are behind these records: the infrastructure, the courier, and each federate that joined
+abbrev pub callers : List Record → ℕ
+callers records = length (entrants records) + 2
+
+-- one of the records is of the resigning of the federate of this number, which was done
+abbrev pub HasResigning : List Record → ℕ → Type 0
+HasResigning records f = (way : ResignAction) × (r : Record) × Contains records r × (r.act ≡ act.Step (step.Call f (service.Resign way))) × (r.outcome ≡ outcome.Done answer.Done)
+
+-- each caller that joined as the federate of this number has resigned, by its own records
+abbrev pub HaveResigned : List Record → ℕ → Type 0
+HaveResigned before f = (n : ℕ) → IsEntrant before f n → HasResigning (records_by n before) f
+
+abbrev pub IsMissed : List Record → Step → Fault → Type 0
+IsMissed before (step.Join name) e = (e ≡ fault.LimitReached) × (max_callers < callers before)
+IsMissed before (step.Carry from to) e = ⊥
+IsMissed before (step.Announce f) e = ⊥
+IsMissed before (step.Call f s) e = (e ≡ fault.FederateNotExecutionMember) × HaveResigned before f
+IsMissed before (step.Tick f) e = (e ≡ fault.FederateNotExecutionMember) × HaveResigned before f
 
 -- why nothing is recorded of what is asked: the history is full, or memory ran out; or no more callers are to be had for one who joins;
--- or the federate has gone
-abbrev pub IsUnrecorded : Request → Fault → Type 0
-IsUnrecorded request.Create e = (e ≡ fault.HistoryFull) ⊎ (e ≡ fault.OutOfMemory)
-IsUnrecorded request.Destroy e = (e ≡ fault.HistoryFull) ⊎ (e ≡ fault.OutOfMemory)
-IsUnrecorded (request.Step s) e = ((e ≡ fault.HistoryFull) ⊎ (e ≡ fault.OutOfMemory)) ⊎ IsMissed s e
+-- or the federate has resigned
+abbrev pub IsUnrecorded : List Record → Request → Fault → Type 0
+IsUnrecorded before request.Create e = (e ≡ fault.HistoryFull) ⊎ (e ≡ fault.OutOfMemory)
+IsUnrecorded before request.Destroy e = (e ≡ fault.HistoryFull) ⊎ (e ≡ fault.OutOfMemory)
+IsUnrecorded before (request.Step s) e = ((e ≡ fault.HistoryFull) ⊎ (e ≡ fault.OutOfMemory)) ⊎ IsMissed before s e
 
 -- ---- the lines in turn
 -- how what is asked comes out behind some records, and the record that it adds, if it does
 pub data RequestEnds (fed : List ℕ) (before : List Record) (asked : Request) (out : Outcome) (added : List Record) : Type 0 where
   -- nothing is recorded
-  Unrecorded : (e : Fault) → IsUnrecorded asked e → out ≡ outcome.Refused e → added ≡ [] → RequestEnds fed before asked out added
+  Unrecorded : (e : Fault) → IsUnrecorded before asked e → out ≡ outcome.Refused e → added ≡ [] → RequestEnds fed before asked out added
   -- its caller's record is added, and it comes out as that answers
   Recorded : (n : ℕ) (ended : Outcome) (chosen : Choice) → IsCaller before asked n → answer_given out ≡ answer_given ended
       → added ≡ record { actor = n; execution = codes "play"; act = act_asked fed asked; outcome = ended; choice = chosen } ∷ [] → RequestEnds fed before asked out added
@@ -101,13 +116,9 @@ Does c fed before (l ∷ ls) [] after = ⊥
 Does c fed before (l ∷ ls) (o ∷ os) after = (added : List Record) × (LineComesOut c fed before l.command o added × Does c fed (before ++ added) ls os after)
 
 -- ---- the history
--- how many callers there are behind these records: the infrastructure, the courier, and each federate that joined
-abbrev pub callers : List Record → ℕ
-callers records = length (entrants records) + 2
-
--- of each caller the history has just its part of these records, in their order
+-- of each caller the history has just its part of these records, in their order, and there are no others
 abbrev pub HasJust : List Record → List Record → Type 0
-HasJust history records = (n : ℕ) → n < callers records → records_by n history ≡ records_by n records
+HasJust history records = ((n : ℕ) → n < callers records → records_by n history ≡ records_by n records) × All (λ (r : Record). r.actor < callers records) history
 
 -- ---- a script over a FED file
 -- the FED file describes a catalogue, and the script asks for these lines; they did what these records say, the history has of each

@@ -3,15 +3,15 @@ use Rattle.std.specs.Prelude.{◌≡◌, ◌+◌, ◌≤◌, ℕ, List, [], ◌�
 use Rattle.hla_machine.specs.declared.step.Record.{Record}
 use Rattle.hla_history.specs.Closing.{records_by}
 use Rattle.hla_callers.specs.Callers.{Caller}
-use Rattle.hla_in_order.specs.InOrder.{entrants, callers}
+use Rattle.hla_in_order.specs.InOrder.{HasResigning, callers, entrants}
 use Rattle.hla_players.specs.Deeds.{caller_of}
 use Rattle.hla_players.specs.declared.player.Player.{Player}
 use Rattle.hla_players.specs.declared.player.Player.TheVariants as player
 
--- while it is joined it is the federate of this number in the execution
+-- while it is joined it is the federate of this number in the execution, and where it is gone, that has resigned
 abbrev pub IsAs : {L B P F : Type 0} → ℕ → Player L B P F → Type 0
 IsAs f (player.Joined m) = (m.federate ≡ f) × (m.execution ≡ codes "play")
-IsAs f (player.Gone l) = Unit {0}
+IsAs f (player.Gone l) = HasResigning l.caller.transcript f
 
 -- the caller has this number, and its transcript is its part of these records
 abbrev pub IsBook : List Record → ℕ → Caller → Type 0

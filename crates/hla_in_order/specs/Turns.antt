@@ -17,7 +17,7 @@ use Rattle.hla_in_order.specs.InOrder.{RequestEnds, LineComesOut, Does, callers,
 use Rattle.hla_outcomes.specs.Running.{told_text, IsCutText}
 use Rattle.hla_in_order.specs.declared.in_order.Cast.{Cast}
 use Rattle.hla_in_order.specs.Players.{Stand, IsBook}
-use Rattle.hla_players.specs.Deeds.{DoesDeed}
+use Rattle.hla_players.specs.Deeds.{DoesDeed, IsGoneBy}
 use Rattle.hla_players.specs.declared.player.Player.{Player}
 use Rattle.hla_players.specs.declared.player.Player.TheVariants as player
 use Rattle.hla_players.specs.declared.player.Deed.{Deed}
@@ -35,17 +35,21 @@ IsJoinedAs f (Some (player.Gone l)) = ⊥
 abbrev pub IsJoinedAt : {L B P F : Type 0} → List (Option (Player L B P F)) → ℕ → ℕ → Type 0
 IsJoinedAt {L = L} {B = B} {P = P} {F = F} players k f = (p : Option (Player L B P F)) × (slice_get players k ≡ Some p) × IsJoinedAs f p
 
--- the federate that is here has done a deed; or none is here that is joined
+-- nobody is here that is joined
+abbrev pub IsUnjoined : {L B P F : Type 0} → Option (Player L B P F) → Type 0
+IsUnjoined slot = (m : FederateCaller) → slot ≡ Some (player.Joined m) → ⊥
+
+-- the federate that is here has done a deed, and is gone only by that; or none is here that is joined
 abbrev pub DoesIn : {L B P F : Type 0} → Option (Player L B P F) → Deed → Outcome → Option (Player L B P F) → Type 0
 DoesIn {L = L} {B = B} {P = P} {F = F} old what out new =
-    ((m : FederateCaller) × (p : Player L B P F) × (old ≡ Some (player.Joined m)) × DoesDeed m what out p × (new ≡ Some p))
-    ⊎ ((out ≡ outcome.Refused fault.FederateNotExecutionMember) × (new ≡ old))
+    ((m : FederateCaller) × (p : Player L B P F) × (old ≡ Some (player.Joined m)) × DoesDeed m what out p × IsGoneBy what out p × (new ≡ Some p))
+    ⊎ ((out ≡ outcome.Refused fault.FederateNotExecutionMember) × (new ≡ old) × IsUnjoined old)
 
 -- the federate of a number has done a deed, at its place; or there is none that is joined
 abbrev pub DoesAt : {L B P F : Type 0} → List (Option (Player L B P F)) → ℕ → Deed → Outcome → List (Option (Player L B P F)) → Type 0
 DoesAt {L = L} {B = B} {P = P} {F = F} old f what out new =
-    ((k : ℕ) × (m : FederateCaller) × (p : Player L B P F) × (slice_get old k ≡ Some (Some (player.Joined m))) × (m.federate ≡ f) × DoesDeed m what out p × (new ≡ slice_set old k (Some p)))
-    ⊎ ((out ≡ outcome.Refused fault.FederateNotExecutionMember) × (new ≡ old))
+    ((k : ℕ) × (m : FederateCaller) × (p : Player L B P F) × (slice_get old k ≡ Some (Some (player.Joined m))) × (m.federate ≡ f) × DoesDeed m what out p × IsGoneBy what out p × (new ≡ slice_set old k (Some p)))
+    ⊎ ((out ≡ outcome.Refused fault.FederateNotExecutionMember) × (new ≡ old) × ((k : ℕ) → IsJoinedAt old k f → ⊥))
 
 -- ---- the callers behind a step
 -- what was asked has come out behind some records, and the callers stand behind them and the record that it adds
@@ -102,6 +106,7 @@ pub record HaveEnded (c : CatalogueValue) (fed : List ℕ) (lines : List Line) (
   pub tells : told ≡ map (λ o. Some o) outcomes
   pub own : IsBook records 0 office.own
   pub left : HaveLeft records lefts 1 (callers records)
+  pub counts : office.handed + 1 ≡ callers records
 
 -- lines have done so and were told, and the history has just their records of each caller
 pub record AreDone (c : CatalogueValue) (fed : List ℕ) (lines : List Line) (old new : Option (List ℕ)) (history : List Record) : Type 0 where

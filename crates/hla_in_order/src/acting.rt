@@ -1,6 +1,6 @@
 //! A federate among those of a script, by its number, and what a line has it do.
 
-ghost use Rattle.std.specs.Prelude.{◌≡◌, IfSome, IsTrue};
+ghost use Rattle.std.specs.Prelude.{◌≡◌, ◌↔◌, ℕ, None, IfSome, IsTrue};
 ghost use Rattle.hla_in_order.specs.Turns.{DoesAt, DoesIn, IsJoinedAs, IsJoinedAt};
 
 use hla_base::{Fault, FederateNo};
@@ -17,7 +17,7 @@ fn is_joined_as<L: Ledger + Naming, B: FederateAmbassador, P: Publisher<L>, F: E
     slot: &Option<Player<L, B, P, F>>,
     number: FederateNo,
 ) -> bool
-    ensures { IsTrue result → IsJoinedAs number slot.now }
+    ensures { IsTrue result ↔ IsJoinedAs number slot.now }
 {
     match slot {
         Some(Player::Joined(federate)) => federate.number() == number,
@@ -30,7 +30,8 @@ fn place_of<L: Ledger + Naming, B: FederateAmbassador, P: Publisher<L>, F: Execu
     players: &[Option<Player<L, B, P, F>>],
     number: FederateNo,
 ) -> Option<usize>
-    ensures { IfSome result (λ k. IsJoinedAt players.now k number) }
+    ensures found { IfSome result (λ k. IsJoinedAt players.now k number) }
+    ensures none { result ≡ None → (k : ℕ) → IsJoinedAt players.now k number → ⊥ }
 {
     for (place, slot) in players.iter().enumerate() {
         if is_joined_as(slot, number) {

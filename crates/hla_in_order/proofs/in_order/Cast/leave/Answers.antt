@@ -11,7 +11,7 @@ use Rattle.hla_in_order.proofs.in_order.Cast.leave.Goals as goal
 
 pub loop-slot-init : goal.loop-slot-init
 loop-slot-init g c rs office set =
-    courier_left rs office c.args.self c.push.new.self.items c.leave.result set (c.in-Ok.ensures.items ∙ ap (λ (xs : List Leaver). xs ++ c.leave.result ∷ []) c.new-lefts.ensures.items) (ap (λ (l : Leaver). l.caller) c.leave.ensures)
+    courier_left rs office c.args.self c.push.new.self.items c.leave.result set (c.in-Ok.ensures.items ∙ ap (λ (xs : List Leaver). xs ++ c.leave.result ∷ []) c.new-lefts.ensures.items) (ap (λ (l : Leaver). l.caller) c.leave.ensures.left)
 
 pub loop-slot-preserved-in-Ok-push-2 : goal.loop-slot-preserved-in-Ok-push-2
 loop-slot-preserved-in-Ok-push-2 g c rs office set =
