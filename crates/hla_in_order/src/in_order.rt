@@ -3,7 +3,7 @@
 //! Here, as in `hla_run`, what is large goes to `drop` by name: such a call is proved once, and what goes out of
 //! scope is taken apart, variant by variant, in the proof of each function that lets it.
 
-ghost use Rattle.std.specs.Prelude.{◌≡◌, ◌||◌, ◌<◌, ◌≤◌, ℕ, List, [], drop, length, OnOk, IfOk, IfErr, codes, vec_len, vec_capacity};
+ghost use Rattle.std.specs.Prelude.{◌≡◌, ◌||◌, ◌<◌, ◌≤◌, ℕ, List, [], drop, length, OnOk, IfOk, IfErr, codes, true, vec_len, vec_capacity};
 ghost use Rattle.std.specs.List.{All};
 ghost use Rattle.hla_base.specs.Limits.{ledger_parts, max_history_limit};
 ghost use Rattle.hla_outcomes.specs.Joining.{joins, joins_by, script_joins, step_joins};
@@ -369,6 +369,7 @@ fn tell_in_order<
     ensures told { IfOk result (λ r. AreDone catalogue.now fed.now lines.now
         (W.contents out.old.inner) (W.contents out.new.inner) r.closed) }
     ensures seen { IfOk result (λ r. IsSeen is_watched r.closed r.seen) }
+    ensures watched { IfErr result (λ e. e ≡ RunFault.Monitor → is_watched ≡ true) }
     ensures stopped { IfErr result (StopsDoing catalogue.now fed.now lines.now
         (W.contents out.old.inner) (W.contents out.new.inner)) }
     ensures failure { out.new.has_failed ≡ (out.old.has_failed || is_unwritten_run result) }
@@ -497,6 +498,9 @@ pub fn run_in_order_within<
 
     // What a monitor read last, where one was to watch, are the counts of a beginning of the records.
     ensures seen { IfOk result (λ r. IsSeen is_watched r.closed r.seen) }
+
+    // Its counts are at fault only where one was to watch.
+    ensures watched { IfErr result (λ e. e ≡ RunFault.Monitor → is_watched ≡ true) }
 
     // There were ambassadors enough.
     ensures enough { OnOk result (script_joins script.now ≤ vec_len ambassadors) }

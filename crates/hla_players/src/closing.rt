@@ -1,6 +1,6 @@
 //! The end of a run: how the lines came out is written, and the infrastructure closes.
 
-ghost use Rattle.std.specs.Prelude.{◌≡◌, ◌||◌, IfOk, OnOk, IfErr, is_some};
+ghost use Rattle.std.specs.Prelude.{◌≡◌, ◌≢◌, ◌||◌, IfOk, OnOk, IfErr, is_some, true};
 ghost use Rattle.hla_base.specs.Limits.{ledger_parts};
 ghost use Rattle.std.specs.Io.KnownBytes.{Appends};
 ghost use Rattle.hla_callers.specs.Close.{AllAgree, AllHere, AreOfCallers};
@@ -55,6 +55,7 @@ pub fn close_told<
     ensures theirs { IfOk result (AreOfCallers rti.handed) }
     ensures own { OnOk result (rti.own.number ≡ 0) }
     ensures here { OnOk result (AllHere rti.handed lefts.items) }
+    ensures unseen { IfErr result (λ e. e ≢ RunFault.Monitor) }
     ensures stopped { IfErr result (StopsText (told_text catalogue.now lines.now outcomes.now)
         (W.contents out.old.inner) (W.contents out.new.inner)) }
     ensures failure { out.new.has_failed ≡ (out.old.has_failed || is_unwritten_run result) }
@@ -97,6 +98,7 @@ pub fn close_seen<
     ensures own { OnOk result (rti.own.number ≡ 0) }
     ensures here { OnOk result (AllHere rti.handed lefts.items) }
     ensures seen { IfOk result (λ r. IsSeen (is_some seen) r.closed r.seen) }
+    ensures watched { IfErr result (λ e. e ≡ RunFault.Monitor → is_some seen ≡ true) }
     ensures stopped { IfErr result (StopsText (told_text catalogue.now lines.now outcomes.now)
         (W.contents out.old.inner) (W.contents out.new.inner)) }
     ensures failure { out.new.has_failed ≡ (out.old.has_failed || is_unwritten_run result) }

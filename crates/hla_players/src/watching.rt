@@ -1,6 +1,6 @@
 //! A monitor beside a run of a script.
 
-ghost use Rattle.std.specs.Prelude.{◌≡◌, IfOk, IsTrue, is_some};
+ghost use Rattle.std.specs.Prelude.{◌≡◌, ◌↔◌, IfErr, IfOk, IsTrue, is_some, true};
 ghost use Rattle.hla_outcomes.specs.Running.{CountsBeginning, IsSeen};
 
 use hla_base::Fault;
@@ -29,6 +29,7 @@ pub fn watcher<L: Ledger + Naming, B: FederateAmbassador, P: Publisher<L>, F: Ex
     is_watched: bool,
 ) -> Result<Option<Monitor<L>>, Fault>
     ensures watched { IfOk result (λ m. is_some m ≡ is_watched) }
+    ensures err { IfErr result (λ e. (e ≡ Fault.LimitReached) × (is_watched ≡ true)) }
     ensures same { rti.new ≡ rti.old }
 {
     if !is_watched {
@@ -52,7 +53,7 @@ pub fn last_read<L: Naming>(monitor: Option<Monitor<L>>) -> Option<Status>
 
 /// Whether these are the counts of a beginning of the records.
 fn counts_beginning(status: Status, records: &[Record]) -> bool
-    ensures { IsTrue result → CountsBeginning records.now status }
+    ensures { IsTrue result ↔ CountsBeginning records.now status }
 {
     let steps = status.steps as usize;
     steps <= records.len() && status.is_of(&records[..steps])
@@ -60,7 +61,7 @@ fn counts_beginning(status: Status, records: &[Record]) -> bool
 
 /// Whether what was read last, if anything was, are the counts of a beginning of the records.
 pub fn is_seen(seen: Option<Status>, records: &[Record]) -> bool
-    ensures { IsTrue result → IsSeen (is_some seen) records.now seen }
+    ensures { IsTrue result ↔ IsSeen (is_some seen) records.now seen }
 {
     match seen {
         None => true,

@@ -3,7 +3,7 @@
 //! Here and in the modules beside it what is large goes to `drop` by name: such a call is proved once, and what goes out of
 //! scope is taken apart, variant by variant, in the proof of each function that lets it.
 
-ghost use Rattle.std.specs.Prelude.{◌≡◌, ◌||◌, ◌≤◌, ℕ, [], false, IfOk, OnOk, IfErr, length, vec_len, List, None, replicate};
+ghost use Rattle.std.specs.Prelude.{◌≡◌, ◌||◌, ◌≤◌, ℕ, [], false, IfOk, OnOk, IfErr, length, vec_len, List, None, replicate, true};
 ghost use Rattle.std.specs.List.{All};
 ghost use Rattle.hla_base.specs.Limits.{ledger_parts};
 ghost use Rattle.hla_history.specs.Creating.{catalogue_from};
@@ -188,6 +188,7 @@ fn tell_on_threads<
     ensures recorded { IfOk result (λ r. IsToldRecorded r.closed (catalogue_from fed.now)
         catalogue.now lines.now (W.contents out.old.inner) (W.contents out.new.inner)) }
     ensures seen { IfOk result (λ r. IsSeen is_watched r.closed r.seen) }
+    ensures watched { IfErr result (λ e. e ≡ RunFault.Monitor → is_watched ≡ true) }
     ensures stopped { IfErr result (StopsTelling catalogue.now lines.now (W.contents out.old.inner)
         (W.contents out.new.inner)) }
     ensures failure { out.new.has_failed ≡ (out.old.has_failed || is_unwritten_run result) }
@@ -282,6 +283,9 @@ pub fn run_scripts<
 
     // What a monitor read last, where one was to watch, are the counts of a beginning of the records.
     ensures seen { IfOk result (λ r. IsSeen is_watched r.closed r.seen) }
+
+    // Its counts are at fault only where one was to watch.
+    ensures watched { IfErr result (λ e. e ≡ RunFault.Monitor → is_watched ≡ true) }
 
     // There were ambassadors enough.
     ensures enough { OnOk result (script_joins script.now ≤ vec_len ambassadors) }
