@@ -179,13 +179,17 @@ pub data EndsJudging (count : ℕ) (seen : Option Status) (out out' err err' : S
   Judged : EndsTelling (finding_text (Run count) seen) 0 out out' err err' status → EndsJudging count seen out out' err err' status
   Unjudged : out' ≡ out → WritesLine err err' memory_line → status ≡ 1 → EndsJudging count seen out out' err err' status
 
+-- what a monitor read is at fault only where one was to watch
+abbrev pub IsWatchedWhere : RunFault → Bool → Type 0
+IsWatchedWhere why is_watched = why ≡ unran.Monitor → is_watched ≡ true
+
 -- a script is run over a FED file, each federate on a thread: how its lines came out is written, of federates' lines that were done as
 -- records answer, and behind it the number of the records, which are a run of the machine, and what a monitor read last; there is an
 -- ambassador for each line that joins, so that too few of them never stop it
 pub data EndsRunning (is_watched : Bool) (fed script : List ℕ) (out out' err err' : Stream) (status : ℕ) : Type 0 where
   Ran : (told : Stream) → IsRunFrom fed script out.bytes told.bytes → told.has_failed ≡ out.has_failed → (records : List Record) → IsWholeRun records → IsRunRecorded records fed script out.bytes told.bytes → (seen : Option Status) → IsSeen is_watched records seen
       → EndsJudging (length records) seen told out' err err' status → EndsRunning is_watched fed script out out' err err' status
-  RunStopped : (why : RunFault) → StopsRun fed script (script_joins script) out.bytes out'.bytes why → RunCause why out' → Complains err err' (run_stop_line why) → status ≡ run_stop_status why → EndsRunning is_watched fed script out out' err err' status
+  RunStopped : (why : RunFault) → StopsRun fed script (script_joins script) out.bytes out'.bytes why → IsWatchedWhere why is_watched → RunCause why out' → Complains err err' (run_stop_line why) → status ≡ run_stop_status why → EndsRunning is_watched fed script out out' err err' status
 
 -- a FED file is listed
 pub data EndsListing (fed : List ℕ) (out out' err err' : Stream) (status : ℕ) : Type 0 where

@@ -7,7 +7,7 @@ ghost use Rattle.hla_checker.specs.Faults.{IsWholeRun};
 ghost use Rattle.hla_outcomes.specs.Joining.{script_joins};
 ghost use Rattle.hla_run.specs.Accounted.{IsRunRecorded};
 ghost use Rattle.hla_outcomes.specs.Running.{IsRunFrom, IsSeen, StopsRun, is_unwritten_run};
-ghost use Rattle.hla_program.specs.Program.{EndsJudging, EndsRunning};
+ghost use Rattle.hla_program.specs.Program.{EndsJudging, EndsRunning, IsWatchedWhere};
 ghost use Rattle.hla_program.specs.declared.finding.Finding.TheVariants as found;
 
 use crate::finding::{Finding, finding_of, tell_finding};
@@ -80,6 +80,7 @@ fn run_recorded<L: Ledger + Naming + Send + Sync, R: Threads + Wait + Sync, W: W
     ensures recorded { IfOk result (λ r. IsRunRecorded r.closed fed.now script.now
         (W.contents out.old.inner) (W.contents out.new.inner)) }
     ensures seen { IfOk result (λ r. IsSeen is_watched r.closed r.seen) }
+    ensures watched { IfErr result (λ e. IsWatchedWhere e is_watched) }
     ensures stopped { IfErr result (StopsRun fed.now script.now (script_joins script.now)
         (W.contents out.old.inner) (W.contents out.new.inner)) }
     ensures failure { out.new.has_failed ≡ (out.old.has_failed || is_unwritten_run result) }

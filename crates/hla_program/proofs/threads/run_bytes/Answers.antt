@@ -5,7 +5,7 @@ use Rattle.hla_program.proofs.EndLemmas.{or-false, run_cause}
 use Rattle.hla_program.proofs.threads.run_bytes.Goals as goal
 
 pub returns-in-Err : goal.returns-in-Err
-returns-in-Err g c = RunStopped c.in-Err.fault c.in-Err.ensures.stopped (run_cause c.in-Err.fault _ _ c.in-Err.ensures.failure) c.tell_run_stop.ensures.line c.tell_run_stop.ensures.status
+returns-in-Err g c = RunStopped c.in-Err.fault c.in-Err.ensures.stopped c.in-Err.ensures.watched (run_cause c.in-Err.fault _ _ c.in-Err.ensures.failure) c.tell_run_stop.ensures.line c.tell_run_stop.ensures.status
 
 pub returns : goal.returns
 returns g c = Ran (stream_of g.W.Write.contents c.run_recorded-ran.new.out) c.in-Ok.ensures.written (c.in-Ok.ensures.failure ∙ or-false _) c.in-Ok.ran.closed c.judge.ensures.run c.in-Ok.ensures.recorded c.in-Ok.ran.seen c.in-Ok.ensures.seen c.judge.ensures.ends
