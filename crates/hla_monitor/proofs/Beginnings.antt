@@ -23,3 +23,9 @@ prefix_whole [] (y ∷ ys) p le = absurd (omega arith)
 prefix_whole (x ∷ xs) [] p le = absurd (cc (p.1))
 prefix_whole (x ∷ xs) (y ∷ ys) p le =
     let rest = prefix_whole xs ys (p.0, cc (p.1)) (omega arith) in cc (p.1, rest)
+
+-- a beginning is no longer than the whole
+pub prefix_length : {A : Type 0} (xs ys : List A) → IsPrefix xs ys → length xs ≤ length ys
+prefix_length [] ys p = omega arith
+prefix_length (x ∷ xs) [] p = absurd (cc (p.1))
+prefix_length (x ∷ xs) (y ∷ ys) p = let rest = prefix_length xs ys (p.0, cc (p.1)) in omega (arith, rest)

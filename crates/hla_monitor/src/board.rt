@@ -1,6 +1,6 @@
 //! What is published of the history, and by whom.
 
-ghost use Rattle.std.specs.Prelude.{◌≡◌, ◌+◌, ◌<◌, ◌⊎◌, ◌++◌, ◌∷◌, [], true, if◌then◌else◌, IfOk, IfErr, OnOk, OnErr, MatchBool, MatchResult};
+ghost use Rattle.std.specs.Prelude.{◌≡◌, ◌+◌, ◌<◌, ◌⊎◌, ◌↔◌, ◌++◌, ◌∷◌, [], true, false, if◌then◌else◌, IsTrue, IfOk, IfErr, IfNone, IfSome, OnOk, OnErr, MatchBool, MatchResult};
 ghost use Rattle.hla_base.specs.Limits.{max_monitors};
 ghost use mathlib.Core.List.{IsPrefix};
 ghost use Rattle.left_right.specs.Handles.{published, pending};
@@ -237,6 +237,25 @@ impl<J: Naming, W: Publisher<J>> Board<J, W> {
             return false;
         }
         true
+    }
+
+    /// All that was noted; none where a record was missed.
+    pub fn all_shown(&self) -> Option<Told<J>>
+        ensures some { IfSome result (λ t. (self.now.whole ≡ true) × (t ≡ self.now.shown)) }
+        ensures none { IfNone result (self.now.whole ≡ false) }
+    {
+        if self.whole {
+            Some(self.shown.again())
+        } else {
+            None
+        }
+    }
+
+    /// Whether what is shown begins with this.
+    pub fn begins_with(&self, told: &Told<J>) -> bool
+        ensures { IsTrue result ↔ IsPrefix told.now self.now.shown }
+    {
+        told.begins(&self.shown)
     }
 
     /// The beginning of the history that is published.

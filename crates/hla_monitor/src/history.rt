@@ -1,6 +1,6 @@
 //! One history, of which each party knows a beginning. It exists in proofs alone; at run time it is its length.
 
-ghost use Rattle.std.specs.Prelude.{◌≡◌, ◌++◌, ◌∷◌, ◌<◌, ◌^◌, ◌⊎◌, [], length, MatchBool};
+ghost use Rattle.std.specs.Prelude.{◌≡◌, ◌++◌, ◌∷◌, ◌<◌, ◌^◌, ◌⊎◌, [], length, IsTrue, MatchBool};
 ghost use mathlib.Core.List.{IsPrefix};
 ghost use Rattle.hla_monitor.specs.Counts.{status_of};
 ghost use Rattle.hla_monitor.specs.Written.{length_of};
@@ -170,6 +170,16 @@ impl<J: Naming> Told<J> {
         } else {
             self.again()
         }
+    }
+
+    /// Whether this begins the other.
+    pub(crate) fn begins(&self, other: &Told<J>) -> bool
+        ensures begins { IsTrue result → IsPrefix self.now other.now }
+        ensures differs { IsPrefix self.now other.now → IsTrue result }
+    {
+        let mut both = self.seen.again();
+        both.learn(&other.seen);
+        self.status.steps <= other.status.steps
     }
 
     /// Adds a record, and says whether it did. It did not where the history is longer.

@@ -10,4 +10,4 @@ pub use board::{Board, Published, Publisher, open_board};
 pub use history::{Length, Naming, Opened, Told};
 pub use hla_base::MAX_MONITORS;
 pub use monitor::Monitor;
-pub use status::Status;
+pub use status::{Status, is_resigning_in};

@@ -51,8 +51,8 @@ fn is_joining_in(entry: &Record) -> bool
     }
 }
 
-/// Whether a federate resigned.
-fn is_resigning_in(entry: &Record) -> bool
+/// Whether the record is of a federate that resigned.
+pub fn is_resigning_in(entry: &Record) -> bool
     ensures { result ≡ is_resigning entry.now.act entry.now.outcome }
 {
     match &entry.act {
