@@ -210,7 +210,7 @@ fn join_all<L: Ledger + Naming, W: Publisher<L>>(
 }
 
 /// Adds what all who have lived leave behind, up to the first that was stopped.
-fn add_all<L: Ledger>(
+fn add_all<L: Ledger + Naming>(
     lefts: &mut List<Left<L, Recorder>>,
     all: Vec<Lived<L>>,
 ) -> Result<(), Fault> {

@@ -9,8 +9,7 @@ use Rattle.hla_machine.specs.declared.step.Outcome.{Outcome}
 use Rattle.hla_machine.specs.declared.step.Outcome.TheVariants as outcome
 use Rattle.hla_machine.specs.declared.step.Choice.{Choice}
 use Rattle.hla_machine.specs.declared.step.Record.{Record}
-use Rattle.hla_callers.specs.Callers.{Caller, FederateCaller, HasActed, HasNotActed, answer_given, HasAnswered, HasResigned, IsServed}
-use Rattle.hla_machine.specs.declared.service.Service.{Service}
+use Rattle.hla_callers.specs.Callers.{Caller, HasActed, HasNotActed, answer_given, HasAnswered, HasResigned}
 use Rattle.hla_history.specs.Forms.{AnswerForm, IsOfForm, EndsInForm}
 
 pub has_acted : (old new : Caller) (name : List ℕ) (a : Act) (own : Record) (out : Outcome) (chosen : Choice)

@@ -1,12 +1,10 @@
 -- Records that replay tell each federate of each object in turn, also where an ambassador failed in a callback.
-use Rattle.std.proofs.Common.{◌≡◌, ◌⊎◌, ⊎_elim, inl, inr, ℕ, cond, Bool, true, false, List, [], ◌∷◌, ◌++◌, Option, Some, None, map, option_map, refl, sym, ap, subst, ◌∙◌}
+use Rattle.std.proofs.Common.{◌≡◌, ⊎_elim, inl, inr, ℕ, cond, Bool, true, false, List, [], ◌∷◌, ◌++◌, Option, Some, None, map, option_map, refl, sym, ap, subst, ◌∙◌}
 use Rattle.std.specs.Str.{bytes_eq}
 use Rattle.hla_base.specs.declared.fault.Fault.{Fault}
 use Rattle.hla_callbacks.specs.declared.callback.Callback.{Callback}
-use Rattle.hla_callbacks.specs.declared.callback.Callback.TheVariants as callback
 use Rattle.hla_machine.specs.declared.step.Act.{Act}
 use Rattle.hla_machine.specs.declared.step.Act.TheVariants as act
-use Rattle.hla_machine.specs.declared.step.Answer.{Answer}
 use Rattle.hla_machine.specs.declared.step.Answer.TheVariants as answer
 use Rattle.hla_machine.specs.declared.step.Choice.{Choice}
 use Rattle.hla_machine.specs.declared.step.Outcome.{Outcome}
@@ -16,7 +14,7 @@ use Rattle.hla_machine.specs.declared.step.Step.{Step}
 use Rattle.hla_machine.specs.declared.step.Step.TheVariants.{Join, Call, Carry, Announce, Tick}
 use Rattle.hla_machine.specs.Central.{Central, new_central}
 use Rattle.hla_machine.specs.Runs.{Happening, create_fault, destroy_fault}
-use Rattle.hla_machine.specs.History.{GivesCallback, SpeaksOf}
+use Rattle.hla_machine.specs.History.{GivesCallback}
 use Rattle.hla_machine.specs.Discovered.{Discovers, IsDiscoveredAmong, HasDiscovered, IsDiscoveredInTurn}
 use Rattle.hla_machine.specs.Projection.{Story, story_with, story_after, story_of}
 use Rattle.hla_machine.specs.Histories.{AreDiscoveredInTurn}

@@ -1,5 +1,5 @@
 -- A history that has as many records as the transcripts of all callers has no other records.
-use Rattle.std.proofs.Common.{◌≡◌, ℕ, zero, suc, Bool, true, false, ◌&&◌, ◌||◌, ◌==◌, ltb, ◌+◌, ◌≤◌, ◌<◌, ◌≢◌, cond, List, [], ◌∷◌, ◌++◌, Option, Some, length, filter, refl, sym, ◌∙◌, ap, subst, arith, zero-le}
+use Rattle.std.proofs.Common.{◌≡◌, ℕ, zero, suc, Bool, true, false, ◌||◌, ◌==◌, ltb, ◌+◌, ◌≤◌, ◌<◌, ◌≢◌, cond, List, [], ◌∷◌, ◌++◌, Some, length, filter, refl, sym, ◌∙◌, ap, arith, zero-le}
 use Rattle.std.specs.Prelude.{slice_get}
 use Rattle.std.specs.List.{All, list_any}
 use Rattle.std.proofs.lemmas.Bool.Decides.{nat_tests}
@@ -8,7 +8,7 @@ use Rattle.hla_components.specs.Invariant.{EachOf}
 use Rattle.hla_machine.specs.declared.step.Record.{Record}
 use Rattle.hla_history.specs.Closing.{records_by}
 use Rattle.hla_callers.specs.Callers.{Caller, Leaver}
-use Rattle.hla_callers.specs.Close.{AllHere, Agrees, AgreeBefore, AllAgree, AreOfCallers, transcripts_length}
+use Rattle.hla_callers.specs.Close.{AllHere, Agrees, AllAgree, AreOfCallers, transcripts_length}
 use Rattle.hla_callers.proofs.Counting.{without_caller, shorter, others, here_length}
 
 -- ---- what passes a test

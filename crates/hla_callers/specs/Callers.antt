@@ -1,5 +1,5 @@
 -- What is seen of the callers of one run-time infrastructure
-use Rattle.std.specs.Prelude.{◌≡◌, ℕ, ◌+◌, ◌⊎◌, Option, List, [], ◌∷◌, ◌++◌, Result, Ok, Err}
+use Rattle.std.specs.Prelude.{◌≡◌, ℕ, ◌+◌, ◌⊎◌, Option, Some, IfSome, List, [], ◌∷◌, ◌++◌, Result, Ok, Err}
 use Rattle.hla_base.specs.declared.fault.Fault.{Fault}
 use Rattle.hla_base.specs.declared.fault.Fault.TheVariants as fault
 use Rattle.hla_callbacks.specs.declared.callback.Callback.{Callback}
@@ -13,6 +13,7 @@ use Rattle.hla_machine.specs.declared.step.Outcome.{Outcome}
 use Rattle.hla_machine.specs.declared.step.Outcome.TheVariants as outcome
 use Rattle.hla_machine.specs.declared.step.Choice.{Choice}
 use Rattle.hla_machine.specs.declared.step.Record.{Record}
+use Rattle.hla_history.specs.Heard.{heard_by}
 
 -- a caller's number, the records of its own acts in order, and its share of the ledger
 pub record Caller : Type 0 where
@@ -75,10 +76,27 @@ IsServed old service result new =
     × (new.federate ≡ old.federate)
     × HasAnswered old.caller old.execution (act.Step (Call old.federate service)) result new.caller
 
--- what a caller leaves behind: itself, and what the ambassador that goes out with it has heard, if one does
+-- what a caller leaves behind: itself, what the ambassador that goes out with it has heard, if one does, and of one that resigned
+-- the history up to its resignation
 pub record Leaver : Type 0 where
   pub caller : Caller
   pub heard : Option (List Callback)
+  pub until : Option (List Record)
+
+-- a history ends with the last record of a transcript
+abbrev pub EndsAlike : List Record → List Record → Type 0
+EndsAlike transcript history =
+    (before : List Record) × (r : Record) × (front : List Record) × (transcript ≡ before ++ r ∷ []) × (history ≡ front ++ r ∷ [])
+
+-- an ambassador has heard just the callbacks that a history says federate f of an execution was given since it joined, in order; and
+-- the history ends with the last record of the transcript
+abbrev pub IsHeardUntil : List ℕ → ℕ → List Callback → List Record → List Record → Type 0
+IsHeardUntil execution f ks transcript history = (ks ≡ heard_by execution f history) × EndsAlike transcript history
+
+-- so has that which a federate leaves behind that resigned, where the history up to there is known
+abbrev pub HeardAll : List ℕ → ℕ → Leaver → Type 0
+HeardAll execution f l =
+    IfSome l.until (λ h. (ks : List Callback) × (l.heard ≡ Some ks) × IsHeardUntil execution f ks l.caller.transcript h)
 
 -- what is seen of the infrastructure: how many callers it has handed out, how many of them are couriers, and itself as a caller
 pub record Office : Type 0 where

@@ -1,8 +1,10 @@
 -- When all callers have come back, and whether their transcripts are the history's
-use Rattle.std.specs.Prelude.{◌≡◌, ℕ, ◌+◌, ◌≤◌, ◌<◌, ◌⊎◌, ◌==◌, List, [], ◌∷◌, Option, Some, true, slice_get, length, All}
+use Rattle.std.specs.Prelude.{◌≡◌, ℕ, ◌+◌, ◌≤◌, ◌<◌, ◌⊎◌, ◌==◌, List, [], ◌∷◌, ◌++◌, Option, Some, true, slice_get, length, All}
+use mathlib.Core.List.{IsPrefix}
 use Rattle.std.specs.List.{list_any}
 use Rattle.hla_machine.specs.declared.step.Record.{Record}
 use Rattle.hla_history.specs.Closing.{records_by}
+use Rattle.hla_monitor.specs.Counts.{is_resigning}
 use Rattle.hla_callers.specs.Callers.{Caller, Leaver}
 
 -- each caller that was handed out is in the list
@@ -47,3 +49,21 @@ transcripts_length (l ∷ ls) = length l.caller.transcript + transcripts_length 
 -- each record is of a caller that was handed out, or of the infrastructure itself
 abbrev pub AreOfCallers : ℕ → List Record → Type 0
 AreOfCallers handed records = All (λ (r : Record). r.actor ≤ handed) records
+
+-- where a caller's last act was to resign, the history up to there is known, and begins this one
+abbrev pub IsKnownUntil : List Record → Leaver → Type 0
+IsKnownUntil history l =
+    (before : List Record) (r : Record) → l.caller.transcript ≡ before ++ r ∷ [] → is_resigning r.act r.outcome ≡ true
+    → (h : List Record) × (l.until ≡ Some h) × IsPrefix h history
+
+-- of the callers before this place
+abbrev pub KnownBefore : List Record → List Leaver → ℕ → Type 0
+KnownBefore history lefts k = (j : ℕ) (l : Leaver) → j < k → slice_get lefts j ≡ Some l → IsKnownUntil history l
+
+-- of all
+abbrev pub AllKnown : List Record → List Leaver → Type 0
+AllKnown history lefts = KnownBefore history lefts (length lefts)
+
+-- of the caller at this place it is not so
+abbrev pub IsUnknownAt : List Record → List Leaver → ℕ → Type 0
+IsUnknownAt history lefts k = (l : Leaver) × (slice_get lefts k ≡ Some l) × (IsKnownUntil history l → ⊥)

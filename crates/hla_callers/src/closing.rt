@@ -1,6 +1,6 @@
 //! Settling: all callers have come back, and the records go out.
 
-ghost use Rattle.std.specs.Prelude.{◌≡◌, ◌+◌, ◌≤◌, ◌↔◌, ◌==◌, vec_len, IsTrue, IfOk, IfErr, OnOk, OnErr};
+ghost use Rattle.std.specs.Prelude.{◌≡◌, ℕ, ◌+◌, ◌≤◌, ◌↔◌, ◌==◌, vec_len, IsTrue, IfOk, IfErr, OnOk, OnErr};
 ghost use Rattle.hla_base.specs.Limits.{ledger_parts, max_callers};
 ghost use Rattle.std.specs.List.{list_any};
 ghost use Rattle.hla_history.specs.Closing.{Replays};
@@ -15,6 +15,7 @@ use hla_callbacks::FederateAmbassador;
 use hla_execution::Execution;
 use hla_history::Shared;
 use hla_machine::Record;
+use hla_monitor::Naming;
 use std::marker::Model;
 use std::sync::ledger::{Ledger, Share};
 
@@ -66,17 +67,22 @@ pub enum CloseFault {
     /// The transcript of the caller at this place of the list is not its records of the history; at the list's length that
     /// of the infrastructure itself.
     Transcript(usize),
+    /// The history up to the resignation of the caller at this place of the list is not known to begin the history.
+    Resignation(usize),
 }
 
 /// Whether the caller of this number is in the list.
-fn holds<L: Ledger, B: FederateAmbassador>(lefts: &[Left<L, B>], number: u32) -> bool
+fn holds<L: Ledger + Naming, B: FederateAmbassador>(lefts: &[Left<L, B>], number: u32) -> bool
     ensures { result ≡ list_any (λ (l : Leaver). l.caller.number == number) lefts.now }
 {
     lefts.iter().any(|l| l.is_of(number))
 }
 
 /// Whether each caller that was handed out is in the list.
-pub fn all_here<L: Ledger, B: FederateAmbassador>(handed: u32, lefts: &[Left<L, B>]) -> bool
+pub fn all_here<L: Ledger + Naming, B: FederateAmbassador>(
+    handed: u32,
+    lefts: &[Left<L, B>],
+) -> bool
     requires { handed ≤ max_callers }
     ensures { IsTrue result ↔ AllHere handed lefts.now }
 {
@@ -90,7 +96,10 @@ pub fn all_here<L: Ledger, B: FederateAmbassador>(handed: u32, lefts: &[Left<L, 
 
 /// The shares of all, put together.
 #[tactic(auto, using(crate::proofs::Whole::transcripts_appended))]
-fn merged<L: Ledger, B: FederateAmbassador>(mut all: Share<L>, lefts: Vec<Left<L, B>>) -> Share<L>
+fn merged<L: Ledger + Naming, B: FederateAmbassador>(
+    mut all: Share<L>,
+    lefts: Vec<Left<L, B>>,
+) -> Share<L>
     ensures parts { result.parts ≡ all.parts + vec_len lefts }
     ensures bound { all.parts ≤ L.parts → result.parts ≤ L.parts }
     ensures amount { result.amount ≡ all.amount + transcripts_length lefts.items }
@@ -101,18 +110,18 @@ fn merged<L: Ledger, B: FederateAmbassador>(mut all: Share<L>, lefts: Vec<Left<L
     all
 }
 
-/// What settling gives back where a transcript differs.
+/// What settling gives back where it does not settle.
 #[derive(Drop)]
-pub struct Unsettled<L: Ledger, B: FederateAmbassador> {
-    pub place: usize,
+pub struct Unsettled<L: Ledger + Naming, B: FederateAmbassador> {
+    pub fault: CloseFault,
     pub seat: Seat<L>,
     pub rest: Share<L>,
     pub lefts: Vec<Left<L, B>>,
 }
 
 /// Lent what is under the lock: compares all transcripts with the history, and takes the records out where they agree. Else
-/// `Unsettled` with the place of the first that differs; then all comes back, and nothing has changed.
-pub fn settle<L: Ledger, B: FederateAmbassador, F: Execution>(
+/// `Transcript` with the place of the first that differs; then all comes back, and nothing has changed.
+pub fn settle<L: Ledger + Naming, B: FederateAmbassador, F: Execution>(
     shared: &mut Shared<L, B, F>,
     seat: Seat<L>,
     rest: Share<L>,
@@ -125,14 +134,15 @@ pub fn settle<L: Ledger, B: FederateAmbassador, F: Execution>(
     ensures records { IfOk result (λ c. c ≡ shared.old.history) }
     ensures agree { OnOk result (AllAgree shared.old.history lefts.items seat) }
     ensures theirs { rest.amount ≡ 0 → seat.number ≡ 0 → IfOk result (AreOfCallers handed) }
-    ensures differs { IfErr result (λ u. DiffersFirst shared.old.history lefts.items seat u.place) }
+    ensures differs { IfErr result (λ u. (k : ℕ) × (u.fault ≡ CloseFault.Transcript k)
+        × DiffersFirst shared.old.history lefts.items seat k) }
     ensures back { IfErr result (λ u. (u.seat ≡ seat) × (u.rest ≡ rest) × (u.lefts ≡ lefts)) }
     ensures same { OnErr result (shared.new ≡ shared.old) }
 {
     let alloc = *lefts.allocator();
     if let Some(place) = first_differing(alloc, shared, lefts.as_slice(), &seat) {
         return Err(Unsettled {
-            place,
+            fault: CloseFault::Transcript(place),
             seat,
             rest,
             lefts,

@@ -7,6 +7,7 @@ use crate::seat::{Left, Seat};
 use hla_callbacks::FederateAmbassador;
 use hla_execution::Execution;
 use hla_history::{Shared, Unmatched};
+use hla_monitor::Naming;
 use std::alloc::Global;
 use std::sync::ledger::Ledger;
 
@@ -17,7 +18,7 @@ fn empty_table<'a>(alloc: Global, numbers: usize) -> Option<Vec<Unmatched<'a>>> 
 
 /// Puts each transcript at its caller's number; not all of them where the table has no place for a number, or two callers
 /// have the same.
-fn put_transcripts<'a, L: Ledger, B: FederateAmbassador>(
+fn put_transcripts<'a, L: Ledger + Naming, B: FederateAmbassador>(
     table: &mut [Unmatched<'a>],
     lefts: &'a [Left<L, B>],
     own: &'a Seat<L>,
@@ -37,7 +38,7 @@ fn put_transcripts<'a, L: Ledger, B: FederateAmbassador>(
 
 /// The transcripts of all, each at its caller's number; none where the room was refused, or the numbers are not those from
 /// zero on.
-fn transcript_table<'a, L: Ledger, B: FederateAmbassador>(
+fn transcript_table<'a, L: Ledger + Naming, B: FederateAmbassador>(
     alloc: Global,
     lefts: &'a [Left<L, B>],
     own: &'a Seat<L>,
@@ -53,7 +54,7 @@ fn transcript_table<'a, L: Ledger, B: FederateAmbassador>(
 }
 
 /// The place of the first transcript that differs from the history, if one does, by one pass over the history for all.
-fn first_unmatched<L: Ledger, B: FederateAmbassador, F: Execution>(
+fn first_unmatched<L: Ledger + Naming, B: FederateAmbassador, F: Execution>(
     shared: &Shared<L, B, F>,
     table: &mut [Unmatched],
     lefts: &[Left<L, B>],
@@ -77,7 +78,7 @@ fn first_unmatched<L: Ledger, B: FederateAmbassador, F: Execution>(
 
 /// The place of the first transcript that differs from the history, if one does, by a pass over the history for each; it
 /// takes no memory.
-fn first_in_turn<L: Ledger, B: FederateAmbassador, F: Execution>(
+fn first_in_turn<L: Ledger + Naming, B: FederateAmbassador, F: Execution>(
     shared: &Shared<L, B, F>,
     lefts: &[Left<L, B>],
     own: &Seat<L>,
@@ -97,7 +98,7 @@ fn first_in_turn<L: Ledger, B: FederateAmbassador, F: Execution>(
 }
 
 /// The place of the first transcript that differs from the history, if one does.
-pub(crate) fn first_differing<L: Ledger, B: FederateAmbassador, F: Execution>(
+pub(crate) fn first_differing<L: Ledger + Naming, B: FederateAmbassador, F: Execution>(
     alloc: Global,
     shared: &Shared<L, B, F>,
     lefts: &[Left<L, B>],

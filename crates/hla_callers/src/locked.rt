@@ -1,6 +1,6 @@
 //! What lies under the lock: the history with its executions, and the board beside it.
 
-ghost use Rattle.std.specs.Prelude.{◌≡◌, ◌+◌, ◌<◌, ◌↔◌, ◌++◌, ◌∷◌, [], List, true, false, None, Some, is_some, Err, IfOk, IfErr, IfSome, OnOk, OnErr, MatchResult, if◌then◌else◌, vec_len, vec_capacity};
+ghost use Rattle.std.specs.Prelude.{◌≡◌, ◌≢◌, ℕ, ◌+◌, ◌<◌, ◌↔◌, ◌++◌, ◌∷◌, [], List, true, false, None, Some, is_some, Err, IsTrue, IfOk, IfErr, IfNone, IfSome, OnOk, OnErr, MatchResult, if◌then◌else◌, length, vec_len, vec_capacity};
 ghost use Rattle.hla_base.specs.Limits.{ledger_parts, max_callers, max_monitors};
 ghost use mathlib.Core.List.{IsPrefix};
 ghost use Rattle.hla_machine.specs.declared.service.Service.TheVariants as service;
@@ -10,13 +10,14 @@ ghost use Rattle.hla_machine.specs.declared.step.Step.TheVariants as step;
 ghost use Rattle.hla_history.specs.Creating.{catalogue_from, is_accepted, heard_from};
 ghost use Rattle.hla_history.specs.Forms.{NoAnswer, AFederate, EndsInForm, step_form};
 ghost use Rattle.hla_history.specs.Hosts.{IsPlain};
+ghost use Rattle.hla_history.specs.Heard.{heard_by};
 ghost use Rattle.hla_history.specs.Hosting.{held_of};
 ghost use Rattle.hla_history.specs.Writing.{step_record};
-ghost use Rattle.hla_callers.specs.Close.{AllHere, AllAgree, AreOfCallers, DiffersFirst};
+ghost use Rattle.hla_callers.specs.Close.{AllHere, AllAgree, AllKnown, AreOfCallers, DiffersFirst, IsKnownUntil, IsUnknownAt};
 ghost use Rattle.hla_callers.specs.Waiting.{vain_steps_then, Learns};
 ghost use Rattle.hla_callers.specs.Locked.{choiceless_record, own_record, IsFull, IsPosted, IsRecorded, IsNotRecorded, CountsRecord};
 
-use crate::closing::{Closed, Unsettled, settle};
+use crate::closing::{CloseFault, Closed, Unsettled, settle};
 use crate::patience::{Patience, vain_steps_after};
 use crate::seat::{Left, Seat};
 use hla_base::{ExecutionName, Fault, FederateNo, List};
@@ -222,7 +223,8 @@ impl<L: Ledger + Naming, B: FederateAmbassador, W: Publisher<L>, F: Execution> L
     }
 
     /// Resign Federation Execution (HLA 1.3, federation management), and records it. Where the federate resigned, its
-    /// ambassador comes out beside the answer. `HistoryFull` where the history holds its limit, and `OutOfMemory` where a
+    /// ambassador comes out beside the answer, and in any case the history up to this record, unless the board has missed one.
+    /// `HistoryFull` where the history holds its limit, and `OutOfMemory` where a
     /// growth was refused; then nothing has changed. Any other fault is the step's answer, and is recorded.
     pub(crate) fn resign(
         &mut self,
@@ -231,7 +233,7 @@ impl<L: Ledger + Naming, B: FederateAmbassador, W: Publisher<L>, F: Execution> L
         federate: FederateNo,
         action: ResignAction,
         mine: &mut Share<L>,
-    ) -> Result<(Stepped, Option<B>), Fault>
+    ) -> Result<(Stepped, Option<B>, Option<Told<L>>), Fault>
         requires { 0 < mine.old.parts }
         ensures asked { IfOk result (λ p. p.0.own
             ≡ step_record actor execution (step.Call federate (service.Resign action)) p.0.answer
@@ -241,17 +243,28 @@ impl<L: Ledger + Naming, B: FederateAmbassador, W: Publisher<L>, F: Execution> L
         ensures heard { IfOk result (λ p. IfSome p.1 (λ b.
             heard_from ((held_of self.old.held).hosts.host execution) federate
             ≡ Some (B.heard b))) }
+        ensures told { IfOk result (λ p. IfSome p.1
+            (λ b. B.heard b ≡ heard_by execution federate self.new.held.history)) }
+        ensures until { IfOk result (λ p. IfSome p.2 (λ h. h ≡ self.new.held.history)) }
+        ensures missed { IfOk result (λ p. IfNone p.2
+            (self.new.ended ≡ false → self.new.posted.whole ≡ false)) }
         ensures recorded { IfOk result (λ p. IsRecorded self.old p.0.own self.new) }
         ensures full { result ≡ Err Fault.HistoryFull ↔ IsFull self.old }
         ensures refused { IfErr result (λ e. IsNotRecorded self.old e self.new) }
         ensures share { CountsRecord result mine.old.amount mine.new.amount }
         ensures parts { mine.new.parts ≡ mine.old.parts }
     {
-        let resigned = self
+        self.shared.kept();
+        let (stepped, back) = self
             .shared
             .resign(actor, execution, federate, action, mine)?;
-        note_record(&mut self.board, &resigned.0.own);
-        Ok(resigned)
+        note_record(&mut self.board, &stepped.own);
+        let until = if self.ended {
+            None
+        } else {
+            self.board.all_shown()
+        };
+        Ok((stepped, back, until))
     }
 
     /// The beginning of the history that monitors are shown. What waits is published first.
@@ -281,8 +294,32 @@ impl<L: Ledger + Naming, B: FederateAmbassador, W: Publisher<L>, F: Execution> L
         self.board.monitor()
     }
 
+    /// Whether the history up to the resignation of a caller, where it resigned, begins this history.
+    fn knows(&self, left: &Left<L, B>) -> bool
+        ensures known { IsTrue result → IsKnownUntil self.now.held.history left.now }
+        ensures unknown { self.now.ended ≡ false → IsKnownUntil self.now.posted.shown left.now
+            → IsTrue result }
+    {
+        !self.ended && left.is_known_to(&self.board)
+    }
+
+    /// The place of the first caller whose resignation is not known.
+    fn first_unknown(&self, lefts: &[Left<L, B>]) -> Option<usize>
+        ensures none { IfNone result (AllKnown self.now.held.history lefts.now) }
+        ensures some { IfSome result (λ k. (k < length lefts.now)
+            × (self.now.ended ≡ false → IsUnknownAt self.now.posted.shown lefts.now k)) }
+    {
+        for (k, left) in lefts.iter().enumerate() {
+            if !self.knows(left) {
+                return Some(k);
+            }
+        }
+        None
+    }
+
     /// Compares all transcripts with the history, and takes the records out where they agree; then it has ended. Else
-    /// `Unsettled` with the place of the first that differs; then all comes back, and nothing has changed.
+    /// `Resignation` with the place of the first caller whose resignation is not shown, or `Transcript` with that of the first
+    /// that differs; then all comes back, and nothing has changed.
     pub fn settle(
         &mut self,
         seat: Seat<L>,
@@ -296,12 +333,25 @@ impl<L: Ledger + Naming, B: FederateAmbassador, W: Publisher<L>, F: Execution> L
         ensures records { IfOk result (λ c. c ≡ self.old.held.history) }
         ensures agree { OnOk result (AllAgree self.old.held.history lefts.items seat) }
         ensures theirs { rest.amount ≡ 0 → seat.number ≡ 0 → IfOk result (AreOfCallers handed) }
-        ensures differs { IfErr result
-            (λ u. DiffersFirst self.old.held.history lefts.items seat u.place) }
+        ensures known { OnOk result (AllKnown self.old.held.history lefts.items) }
+        ensures differs { IfErr result (λ u. (k : ℕ) → u.fault ≡ CloseFault.Transcript k
+            → DiffersFirst self.old.held.history lefts.items seat k) }
+        ensures unknown { IfErr result (λ u. (k : ℕ) → u.fault ≡ CloseFault.Resignation k
+            → (k < vec_len lefts)
+            × (self.old.ended ≡ false → IsUnknownAt self.old.posted.shown lefts.items k)) }
+        ensures present { IfErr result (λ u. u.fault ≢ CloseFault.Missing) }
         ensures back { IfErr result (λ u. (u.seat ≡ seat) × (u.rest ≡ rest) × (u.lefts ≡ lefts)) }
         ensures same { OnErr result (self.new ≡ self.old) }
         ensures ended { OnOk result (self.new.ended ≡ true) }
     {
+        if let Some(place) = self.first_unknown(lefts.as_slice()) {
+            return Err(Unsettled {
+                fault: CloseFault::Resignation(place),
+                seat,
+                rest,
+                lefts,
+            });
+        }
         let settled = settle(&mut self.shared, seat, rest, lefts, handed);
         if settled.is_ok() {
             self.ended = true;

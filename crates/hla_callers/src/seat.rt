@@ -1,6 +1,8 @@
 //! A caller of the run-time infrastructure.
 
-ghost use Rattle.std.specs.Prelude.{◌≡◌, ◌==◌, ◌↔◌, ◌⊎◌, [], None, Some, Err, length, option_map, is_some, slice_get, not, IsTrue, IfOk, IfErr};
+ghost use Rattle.std.specs.Prelude.{◌≡◌, ◌==◌, ◌↔◌, ◌⊎◌, ◌++◌, ◌∷◌, [], List, false, None, Some, Err, length, option_map, is_some, slice_get, not, IsTrue, IfOk, IfErr, IfSome};
+ghost use Rattle.hla_machine.specs.declared.step.Record.{Record as Entry};
+ghost use Rattle.hla_monitor.specs.Counts.{is_resigning};
 ghost use Rattle.hla_machine.specs.declared.service.Service.TheVariants as service;
 ghost use Rattle.hla_machine.specs.declared.step.Act.TheVariants as act;
 ghost use Rattle.hla_machine.specs.declared.step.Answer.TheVariants as answer;
@@ -9,8 +11,8 @@ ghost use Rattle.hla_machine.specs.declared.step.Step.TheVariants as step;
 ghost use Rattle.hla_history.specs.Creating.{catalogue_from, is_accepted};
 ghost use Rattle.hla_history.specs.Forms.{NoAnswer, AFederate, IsOfForm, EndsInForm, step_form};
 ghost use Rattle.hla_history.specs.Hosts.{IsPlain};
-ghost use Rattle.hla_callers.specs.Callers.{Caller, new_caller, answer_given, HasActed, HasNotActed, HasAnswered, HasResigned};
-ghost use Rattle.hla_callers.specs.Close.{Agrees, Stands};
+ghost use Rattle.hla_callers.specs.Callers.{Caller, new_caller, answer_given, HasActed, HasNotActed, HasAnswered, HasResigned, IsHeardUntil};
+ghost use Rattle.hla_callers.specs.Close.{Agrees, IsKnownUntil, Stands};
 
 use crate::locked::Locked;
 use crate::patience::Patience;
@@ -19,7 +21,7 @@ use hla_callbacks::FederateAmbassador;
 use hla_execution::Execution;
 use hla_history::{Shared, Stepped, Unmatched};
 use hla_machine::{Answer, Outcome, Record, ResignAction, Step};
-use hla_monitor::{Naming, Publisher};
+use hla_monitor::{Board, Naming, Publisher, Told, is_resigning_in};
 use std::alloc::Global;
 use std::marker::Model;
 use std::sync::ledger::{Ledger, Share};
@@ -50,50 +52,78 @@ impl<L: Ledger> Model for Seat<L> {
     ghost invariant = { λ s. (s.share.parts ≡ 1) × (s.share.amount ≡ length s.transcript.items) };
 }
 
-/// What a caller leaves behind for `close`: its place, and the ambassador of a federate that resigned. Contracts see the
-/// caller with its transcript, and what the ambassador has heard.
-pub struct Left<L: Ledger, B: FederateAmbassador> {
+/// What a caller leaves behind for `close`: its place, and of a federate that resigned its ambassador and what tells the history up
+/// to its resignation. Contracts see the caller with its transcript, what the ambassador has heard, and that history.
+pub struct Left<L: Ledger + Naming, B: FederateAmbassador> {
     pub(crate) seat: Seat<L>,
     pub(crate) ambassador: Option<B>,
+    pub(crate) until: Option<Told<L>>,
 }
 
-impl<L: Ledger, B: FederateAmbassador> Model for Left<L, B> {
+impl<L: Ledger + Naming, B: FederateAmbassador> Model for Left<L, B> {
     ghost use Rattle.std.specs.Prelude.{option_map};
     ghost use Rattle.hla_callers.specs.Callers.{Leaver};
 
     ghost Value = { Leaver };
 
-    ghost view = { λ l.
-        record { caller = l.seat; heard = option_map (λ b. B.heard b) l.ambassador } };
+    ghost view = { λ l. record {
+      caller = l.seat;
+      heard = option_map (λ b. B.heard b) l.ambassador;
+      until = l.until;
+    } };
 }
 
 /// By name and not derived, so that it is proved here alone how what a caller leaves is let go, and not by each crate that owns such.
-impl<L: Ledger, B: FederateAmbassador> Drop for Left<L, B> {
+impl<L: Ledger + Naming, B: FederateAmbassador> Drop for Left<L, B> {
     fn drop(self) {
         let Left {
             seat: _,
             ambassador: _,
+            until: _,
         } = self;
     }
 }
 
-impl<L: Ledger, B: FederateAmbassador> Left<L, B> {
-    /// What a caller leaves behind, with the ambassador where there is one.
-    pub fn new(seat: Seat<L>, ambassador: Option<B>) -> Left<L, B>
+impl<L: Ledger + Naming, B: FederateAmbassador> Left<L, B> {
+    /// What a caller leaves behind, with the ambassador where there is one, and what tells the history up to its resignation.
+    pub fn new(seat: Seat<L>, ambassador: Option<B>, until: Option<Told<L>>) -> Left<L, B>
         ensures { result ≡ record {
           caller = seat;
           heard = option_map (λ b. B.heard b) ambassador;
+          until = until;
         } }
     {
-        Left { seat, ambassador }
+        Left {
+            seat,
+            ambassador,
+            until,
+        }
     }
 
     /// Takes the ambassador out, which is there where the federate resigned and it was not taken before.
     pub fn take_ambassador(&mut self) -> Option<B>
         ensures taken { option_map (λ b. B.heard b) result ≡ self.old.heard }
-        ensures after { self.new ≡ record { caller = self.old.caller; heard = None } }
+        ensures after { self.new ≡ record {
+          caller = self.old.caller;
+          heard = None;
+          until = self.old.until;
+        } }
     {
         self.ambassador.take()
+    }
+
+    /// Whether the history up to its resignation, where it resigned, begins what a board shows.
+    pub(crate) fn is_known_to<W: Publisher<L>>(&self, board: &Board<L, W>) -> bool
+        ensures known { IsTrue result → IsKnownUntil board.now.shown self.now }
+        ensures unknown { IsKnownUntil board.now.shown self.now → IsTrue result }
+    {
+        if !self.seat.has_resigned() {
+            return true;
+        }
+        match &self.until {
+            Some(told) => board.begins_with(told),
+            None => false,
+        }
     }
 
     /// Whether it is that of the caller of this number.
@@ -134,6 +164,7 @@ impl<L: Ledger, B: FederateAmbassador> Left<L, B> {
         let Left {
             seat,
             ambassador: _,
+            until: _,
         } = self;
         seat.into_share()
     }
@@ -177,17 +208,22 @@ fn joined_as<B: FederateAmbassador>(
     told
 }
 
-/// The ambassador of a federate that resigned, or why it is refused.
-fn resigned_with<B: FederateAmbassador>(ended: Outcome, back: Option<B>) -> Result<B, Fault>
+/// The ambassador of a federate that resigned, and what tells the history up to there; or why it is refused.
+fn resigned_with<L: Naming, B: FederateAmbassador>(
+    ended: Outcome,
+    back: Option<B>,
+    until: Option<Told<L>>,
+) -> Result<(B, Option<Told<L>>), Fault>
     requires form { EndsInForm NoAnswer ended }
     requires back { is_some back ≡ is_accepted ended }
     ensures ok { IfOk result (λ _. ended ≡ outcome.Done answer.Done) }
-    ensures returned { IfOk result (λ b. back ≡ Some b) }
+    ensures returned { IfOk result (λ p. back ≡ Some p.0) }
+    ensures until { IfOk result (λ p. p.1 ≡ until) }
     ensures err { IfErr result (λ e. answer_given ended ≡ Err e) }
 {
     let told = match &ended {
         Outcome::Done(Answer::Done) => match back {
-            Some(inner) => Ok(inner),
+            Some(inner) => Ok((inner, until)),
             None => unreachable!(),
         },
         Outcome::Refused(fault) => Err(*fault),
@@ -316,7 +352,8 @@ impl<L: Ledger + Naming> Seat<L> {
         }
     }
 
-    /// Resigns a federate under the lock, and writes it down: its ambassador, or why it is refused.
+    /// Resigns a federate under the lock, and writes it down: its ambassador, with what tells the history up to there, which is not
+    /// told where a monitor's board missed a record; or why it is refused.
     pub fn resign<B: FederateAmbassador, W: Publisher<L>, F: Execution>(
         &mut self,
         rt: &impl Wait,
@@ -324,9 +361,11 @@ impl<L: Ledger + Naming> Seat<L> {
         execution: ExecutionName,
         federate: FederateNo,
         action: ResignAction,
-    ) -> Result<B, Fault>
+    ) -> Result<(B, Option<Told<L>>), Fault>
         ensures resigned { IfOk result (λ _. HasResigned self.old execution
             (act.Step (step.Call federate (service.Resign action))) self.new) }
+        ensures heard { IfOk result (λ p. IfSome p.1
+            (λ h. IsHeardUntil execution federate (B.heard p.0) self.new.transcript h)) }
         ensures refused { IfErr result (λ e. HasAnswered self.old execution
             (act.Step (step.Call federate (service.Resign action))) (Err e) self.new) }
     {
@@ -339,9 +378,9 @@ impl<L: Ledger + Naming> Seat<L> {
             .resign(number, execution, federate, action, &mut self.share);
         match done {
             Ok(resigned) => {
-                let (stepped, back) = resigned;
+                let (stepped, back, until) = resigned;
                 self.transcript.push_reserved(stepped.own);
-                resigned_with(stepped.answer, back)
+                resigned_with(stepped.answer, back, until)
             }
             Err(fault) => Err(fault),
         }
@@ -349,6 +388,18 @@ impl<L: Ledger + Naming> Seat<L> {
 }
 
 impl<L: Ledger> Seat<L> {
+    /// Whether the last of its acts was to resign, which was done.
+    pub(crate) fn has_resigned(&self) -> bool
+        ensures last { (before : List Entry) (r : Entry) → self.now.transcript ≡ before ++ r ∷ []
+            → result ≡ is_resigning r.act r.outcome }
+        ensures none { self.now.transcript ≡ [] → result ≡ false }
+    {
+        match self.transcript.last() {
+            Some(entry) => is_resigning_in(entry),
+            None => false,
+        }
+    }
+
     /// Whether the transcript is just this caller's records in the history, in order.
     pub(crate) fn agrees_with<B: FederateAmbassador, F: Execution>(
         &self,

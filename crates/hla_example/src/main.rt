@@ -121,7 +121,7 @@ fn print_heard<R: Runtime>(rt: &R, ambassador: &Recorder) -> io::Result<()> {
 }
 
 /// Takes out the ambassadors of those who resigned. `Refused` with `OutOfMemory` where a growth was refused.
-fn take_ambassadors<L: Ledger>(
+fn take_ambassadors<L: Ledger + Naming>(
     lefts: &mut Vec<Left<L, Recorder>>,
     heard: &mut Vec<Recorder>,
 ) -> Result<(), Trouble> {

@@ -89,10 +89,10 @@ impl<L: Ledger + Naming, B: FederateAmbassador, W: Publisher<L>, F: Execution> C
 
     /// Ends the caller without a step.
     pub fn leave(self) -> Left<L, B>
-        ensures left { result ≡ record { caller = self; heard = None } }
+        ensures left { result ≡ record { caller = self; heard = None; until = None } }
         ensures exchanges { All IsExchange self.transcript }
     {
         let Courier { seat, shared: _ } = self;
-        Left::new(seat, None)
+        Left::new(seat, None, None)
     }
 }

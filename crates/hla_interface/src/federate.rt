@@ -7,7 +7,7 @@ ghost use Rattle.hla_machine.specs.declared.step.Answer.TheVariants as answer;
 ghost use Rattle.hla_machine.specs.declared.step.Step.TheVariants as step;
 ghost use Rattle.hla_history.specs.Forms.{NoAnswer, ARegistration, AHandle, AName, AnEvent, ATime, IsOfForm, service_form};
 ghost use Rattle.hla_history.specs.Hosts.{IsPlain};
-ghost use Rattle.hla_callers.specs.Callers.{HasAnswered, HasResigned, IsServed, said, nothing};
+ghost use Rattle.hla_callers.specs.Callers.{HasAnswered, HasResigned, HeardAll, IsServed, said, nothing};
 
 use crate::answers::{
     Registration, callback_in, done_in, event_in, handle_in, name_in, registration_in, time_in,
@@ -160,7 +160,8 @@ impl<L: Ledger + Naming, B: FederateAmbassador, W: Publisher<L>, F: Execution> F
     }
 
     /// Resign Federation Execution (HLA 1.3, federation management), and the action says what becomes of the federate's
-    /// objects. The place and the ambassador go out for `close`. `InvalidResignAction` where the action releases attributes;
+    /// objects. The place and the ambassador go out for `close`, with what tells the history up to there, of which the ambassador
+    /// has heard just the callbacks that were given to this federate since it joined. `InvalidResignAction` where the action releases attributes;
     /// `FederateOwnsAttributes` by no action while the federate has objects; `LimitReached` where a removal would need a
     /// serial above 10^18; `FederateNotExecutionMember` and `FederationExecutionDoesNotExist` where the federate or its
     /// execution is no longer there. `HistoryFull` and `OutOfMemory` without a record; then the federate comes back as it
@@ -173,20 +174,21 @@ impl<L: Ledger + Naming, B: FederateAmbassador, W: Publisher<L>, F: Execution> F
         ensures resigned { IfOk result (λ l. HasResigned self.caller self.execution
             (act.Step (step.Call self.federate (service.Resign action))) l.caller) }
         ensures ambassador { IfOk result (λ l. is_some l.heard ≡ true) }
+        ensures heard { IfOk result (λ l. HeardAll self.execution self.federate l) }
         ensures refused { IfErr result (λ e. IsServed self (service.Resign action) (Err e.0) e.1) }
     {
         match self
             .seat
             .resign(rt, &self.shared, self.execution, self.federate, action)
         {
-            Ok(inner) => {
+            Ok((inner, until)) => {
                 let Federate {
                     seat,
                     shared: _,
                     execution: _,
                     federate: _,
                 } = self;
-                Ok(Left::new(seat, Some(inner)))
+                Ok(Left::new(seat, Some(inner), until))
             }
             Err(fault) => Err((fault, self)),
         }
@@ -201,7 +203,7 @@ impl<L: Ledger + Naming, B: FederateAmbassador, W: Publisher<L>, F: Execution> F
 
     /// Ends the caller without a step: the federate stays joined.
     pub fn leave(self) -> Left<L, B>
-        ensures { result ≡ record { caller = self.caller; heard = None } }
+        ensures { result ≡ record { caller = self.caller; heard = None; until = None } }
     {
         let Federate {
             seat,
@@ -209,6 +211,6 @@ impl<L: Ledger + Naming, B: FederateAmbassador, W: Publisher<L>, F: Execution> F
             execution: _,
             federate: _,
         } = self;
-        Left::new(seat, None)
+        Left::new(seat, None, None)
     }
 }

@@ -1,13 +1,14 @@
 //! The run-time infrastructure.
 
-ghost use Rattle.std.specs.Prelude.{◌≡◌, ◌≢◌, ◌+◌, ◌<◌, ◌≤◌, ◌⊎◌, [], true, IfOk, IfErr, OnOk, MatchResult};
+ghost use Rattle.std.specs.Prelude.{◌≡◌, ◌≢◌, ℕ, ◌+◌, ◌<◌, ◌≤◌, ◌⊎◌, List, [], true, vec_len, IfOk, IfErr, OnOk, MatchResult};
+ghost use Rattle.hla_machine.specs.declared.step.Record.{Record};
 ghost use Rattle.hla_base.specs.Limits.{ledger_parts, max_callers, max_couriers, max_history_limit};
 ghost use Rattle.hla_machine.specs.declared.step.Act.TheVariants as act;
 ghost use Rattle.hla_machine.specs.declared.step.Answer.TheVariants as answer;
 ghost use Rattle.hla_machine.specs.declared.step.Outcome.TheVariants as outcome;
 ghost use Rattle.hla_machine.specs.declared.step.Step.TheVariants as step;
 ghost use Rattle.hla_history.specs.Creating.{catalogue_from};
-ghost use Rattle.hla_callers.specs.Close.{AllHere, AllAgree, AreOfCallers};
+ghost use Rattle.hla_callers.specs.Close.{AllHere, AllAgree, AllKnown, AreOfCallers, DiffersFirst};
 ghost use Rattle.hla_callers.specs.Callers.{Caller, new_caller, HasActed, HasNotActed, HasAnswered, said, nothing};
 
 use crate::answers::done_in;
@@ -240,9 +241,10 @@ impl<L: Ledger + Naming, B: FederateAmbassador, W: Publisher<L>, F: Execution> R
     }
 
     /// Takes all callers back, and answers the records of the whole history, where each transcript is just the records of its
-    /// caller, in order. Else `Missing` where a caller that was handed out is not in the list, and then `Transcript` with the
-    /// place of the first that differs; then the infrastructure and the list come back, and nothing has changed. Each record is of
-    /// one of the callers, or of the infrastructure itself, whose number is 0.
+    /// caller, in order, and the history up to a resignation begins it. Else `Missing` where a caller that was handed out is not in
+    /// the list, then `Resignation` with the place of the first whose history up to its resignation is not known to begin this one,
+    /// and then `Transcript` with the place of the first that differs; then the infrastructure and the list come back, and nothing
+    /// has changed. Each record is of one of the callers, or of the infrastructure itself, whose number is 0.
     pub fn close(
         self,
         rt: &impl Wait,
@@ -250,6 +252,7 @@ impl<L: Ledger + Naming, B: FederateAmbassador, W: Publisher<L>, F: Execution> R
     ) -> Result<Closed, NotClosed<L, B, W, F>>
         requires { L.parts ≡ ledger_parts }
         ensures agree { IfOk result (λ c. AllAgree c lefts.items self.own) }
+        ensures known { IfOk result (λ c. AllKnown c lefts.items) }
         ensures theirs { IfOk result (AreOfCallers self.handed) }
         ensures own { self.own.number ≡ 0 }
         ensures here { OnOk result (AllHere self.handed lefts.items) }
@@ -257,6 +260,10 @@ impl<L: Ledger + Naming, B: FederateAmbassador, W: Publisher<L>, F: Execution> R
             (λ n. n.fault ≡ CloseFault.Missing → AllHere self.handed lefts.items → ⊥) }
         ensures present { IfErr result
             (λ n. n.fault ≢ CloseFault.Missing → AllHere self.handed lefts.items) }
+        ensures differs { IfErr result (λ n. (k : ℕ) → n.fault ≡ CloseFault.Transcript k
+            → (h : List Record) × DiffersFirst h lefts.items self.own k) }
+        ensures unknown { IfErr result (λ n. (k : ℕ) → n.fault ≡ CloseFault.Resignation k
+            → k < vec_len lefts) }
         ensures back { IfErr result (λ n. (n.rti ≡ self) × (n.lefts ≡ lefts)) }
     {
         if !all_here(self.handed, lefts.as_slice()) {
@@ -279,7 +286,7 @@ impl<L: Ledger + Naming, B: FederateAmbassador, W: Publisher<L>, F: Execution> R
             Ok(closed) => Ok(closed),
             Err(
                 Unsettled {
-                    place,
+                    fault,
                     seat,
                     rest,
                     lefts,
@@ -294,7 +301,7 @@ impl<L: Ledger + Naming, B: FederateAmbassador, W: Publisher<L>, F: Execution> R
                     alloc,
                 },
                 lefts,
-                fault: CloseFault::Transcript(place),
+                fault,
             }),
         }
     }

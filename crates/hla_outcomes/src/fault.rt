@@ -17,7 +17,8 @@ pub enum RunFault {
     Write,
     /// A growth was refused outside the steps.
     Memory,
-    /// The infrastructure did not close: a caller is missing, or its transcript is not its records of the history.
+    /// The infrastructure did not close: a caller is missing, its transcript is not its records of the history, or the history up to
+    /// its resignation is not known to begin it.
     Close(CloseFault),
     /// What a monitor read last are not the counts of a beginning of the history.
     Monitor,
