@@ -1,6 +1,6 @@
 -- The history up to a resignation, and what the ambassador has heard that comes out with it
 use Rattle.std.proofs.Common.{◌≡◌, ◌++◌, ◌∷◌, ℕ, Bool, true, false, cond, List, [], Option, Some, None, IfSome, refl, sym, ap, ◌∙◌, subst, ◌⊎◌, inl, inr}
-use Rattle.std.specs.Prelude.{Result, Ok, Err, IfErr, OnOk}
+use Rattle.std.specs.Prelude.{Result, Ok, Err, IfOk, IfErr, OnOk}
 use Rattle.std.specs.Str.{bytes_eq}
 use mathlib.Core.List.{IsPrefix}
 use Rattle.hla_callbacks.specs.declared.callback.Callback.{Callback}
@@ -10,6 +10,7 @@ use Rattle.hla_machine.specs.declared.step.Choice.{Choice}
 use Rattle.hla_machine.specs.declared.step.Outcome.{Outcome}
 use Rattle.hla_machine.specs.declared.step.Record.{Record}
 use Rattle.hla_machine.specs.declared.step.Step.TheVariants.{Call}
+use Rattle.hla_history.specs.Closing.{Replays}
 use Rattle.hla_history.specs.Creating.{heard_from}
 use Rattle.hla_history.specs.Heard.{heard_by}
 use Rattle.hla_history.specs.Hosts.{Host, Hosts, Held, IsLockKept, with_record}
@@ -92,3 +93,18 @@ pub differs_at : {T E : Type 0} (fault_of : E → CloseFault) (P : ℕ → Type 
     → IfErr result (λ e. (k : ℕ) × (fault_of e ≡ close_fault.Transcript k) × P k) → IfErr result (λ e. (k : ℕ) → fault_of e ≡ close_fault.Transcript k → P k)
 differs_at fault_of P (Ok x) differs = tt
 differs_at fault_of P (Err e) differs = λ k is. (let (other, was, p) = differs in (let same : other ≡ k = cc (was, is) in subst P same p))
+
+-- the history that is told is one that replays, where that is so of the history there
+until_replays : (until : Option (List Record)) (history : List Record) → IfSome until (λ h. h ≡ history) → Replays history → IfSome until Replays
+until_replays None history is replays = tt
+until_replays (Some h) history is replays = subst Replays (sym is) replays
+
+pub resigned_replays : {X E : Type 0} (result : Result (X × Option (List Record)) E) (until : Option (List Record)) (history : List Record)
+    → IfOk result (λ p. p.1 ≡ until) → IfSome until (λ h. h ≡ history) → Replays history → IfOk result (λ p. IfSome p.1 Replays)
+resigned_replays (Ok p) until history same is replays = subst (λ (o : Option (List Record)). IfSome o Replays) (sym same) (until_replays until history is replays)
+resigned_replays (Err e) until history same is replays = tt
+
+-- and what is so of each history that replays is so of it
+pub told_of : (until : Option (List Record)) (P : List Record → Type 0) → ((h : List Record) → Replays h → P h) → IfSome until Replays → IfSome until P
+told_of None P holds replays = tt
+told_of (Some h) P holds replays = holds h replays

@@ -7,6 +7,7 @@ ghost use Rattle.hla_machine.specs.declared.service.Service.TheVariants as servi
 ghost use Rattle.hla_machine.specs.declared.step.Act.TheVariants as act;
 ghost use Rattle.hla_machine.specs.declared.step.Record.{Record as Entry};
 ghost use Rattle.hla_machine.specs.declared.step.Step.TheVariants as step;
+ghost use Rattle.hla_history.specs.Closing.{Replays};
 ghost use Rattle.hla_history.specs.Creating.{catalogue_from, is_accepted, heard_from};
 ghost use Rattle.hla_history.specs.Forms.{NoAnswer, AFederate, EndsInForm, step_form};
 ghost use Rattle.hla_history.specs.Hosts.{IsPlain};
@@ -246,6 +247,7 @@ impl<L: Ledger + Naming, B: FederateAmbassador, W: Publisher<L>, F: Execution> L
         ensures told { IfOk result (λ p. IfSome p.1
             (λ b. B.heard b ≡ heard_by execution federate self.new.held.history)) }
         ensures until { IfOk result (λ p. IfSome p.2 (λ h. h ≡ self.new.held.history)) }
+        ensures replays { OnOk result (Replays self.new.held.history) }
         ensures missed { IfOk result (λ p. IfNone p.2
             (self.new.ended ≡ false → self.new.posted.whole ≡ false)) }
         ensures recorded { IfOk result (λ p. IsRecorded self.old p.0.own self.new) }
@@ -258,6 +260,7 @@ impl<L: Ledger + Naming, B: FederateAmbassador, W: Publisher<L>, F: Execution> L
         let (stepped, back) = self
             .shared
             .resign(actor, execution, federate, action, mine)?;
+        self.shared.kept();
         note_record(&mut self.board, &stepped.own);
         let until = if self.ended {
             None

@@ -8,6 +8,7 @@ ghost use Rattle.hla_machine.specs.declared.step.Act.TheVariants as act;
 ghost use Rattle.hla_machine.specs.declared.step.Answer.TheVariants as answer;
 ghost use Rattle.hla_machine.specs.declared.step.Outcome.TheVariants as outcome;
 ghost use Rattle.hla_machine.specs.declared.step.Step.TheVariants as step;
+ghost use Rattle.hla_history.specs.Closing.{Replays};
 ghost use Rattle.hla_history.specs.Creating.{catalogue_from, is_accepted};
 ghost use Rattle.hla_history.specs.Forms.{NoAnswer, AFederate, IsOfForm, EndsInForm, step_form};
 ghost use Rattle.hla_history.specs.Hosts.{IsPlain};
@@ -366,6 +367,7 @@ impl<L: Ledger + Naming> Seat<L> {
             (act.Step (step.Call federate (service.Resign action))) self.new) }
         ensures heard { IfOk result (λ p. IfSome p.1
             (λ h. IsHeardUntil execution federate (B.heard p.0) self.new.transcript h)) }
+        ensures replays { IfOk result (λ p. IfSome p.1 Replays) }
         ensures refused { IfErr result (λ e. HasAnswered self.old execution
             (act.Step (step.Call federate (service.Resign action))) (Err e) self.new) }
     {

@@ -1,6 +1,9 @@
 //! A joined federate.
 
-ghost use Rattle.std.specs.Prelude.{◌≡◌, true, None, is_some, Err, IfOk, IfErr};
+ghost use Rattle.std.specs.Prelude.{◌≡◌, true, None, is_some, Err, IfOk, IfErr, IfSome};
+ghost use Rattle.hla_machine.specs.Histories.{AreDiscoveredInTurn, AreLawful};
+ghost use Rattle.hla_machine.specs.Runs.{Executions, no_executions, AreRun};
+ghost use Rattle.hla_history.specs.Closing.{Replays};
 ghost use Rattle.hla_machine.specs.declared.service.Service.TheVariants as service;
 ghost use Rattle.hla_machine.specs.declared.step.Act.TheVariants as act;
 ghost use Rattle.hla_machine.specs.declared.step.Answer.TheVariants as answer;
@@ -160,8 +163,9 @@ impl<L: Ledger + Naming, B: FederateAmbassador, W: Publisher<L>, F: Execution> F
     }
 
     /// Resign Federation Execution (HLA 1.3, federation management), and the action says what becomes of the federate's
-    /// objects. The place and the ambassador go out for `close`, with what tells the history up to there, of which the ambassador
-    /// has heard just the callbacks that were given to this federate since it joined. `InvalidResignAction` where the action releases attributes;
+    /// objects. The place and the ambassador go out for `close`, with what tells the history up to there: a run of the central
+    /// machine, of which the ambassador has heard just the callbacks that were given to this federate since it joined.
+    /// `InvalidResignAction` where the action releases attributes;
     /// `FederateOwnsAttributes` by no action while the federate has objects; `LimitReached` where a removal would need a
     /// serial above 10^18; `FederateNotExecutionMember` and `FederationExecutionDoesNotExist` where the federate or its
     /// execution is no longer there. `HistoryFull` and `OutOfMemory` without a record; then the federate comes back as it
@@ -175,6 +179,11 @@ impl<L: Ledger + Naming, B: FederateAmbassador, W: Publisher<L>, F: Execution> F
             (act.Step (step.Call self.federate (service.Resign action))) l.caller) }
         ensures ambassador { IfOk result (λ l. is_some l.heard ≡ true) }
         ensures heard { IfOk result (λ l. HeardAll self.execution self.federate l) }
+        ensures replays { IfOk result (λ l. IfSome l.until Replays) }
+        ensures run { IfOk result (λ l. IfSome l.until
+            (λ h. (y : Executions) × AreRun no_executions h y)) }
+        ensures laws { IfOk result (λ l. IfSome l.until AreLawful) }
+        ensures discoveries { IfOk result (λ l. IfSome l.until AreDiscoveredInTurn) }
         ensures refused { IfErr result (λ e. IsServed self (service.Resign action) (Err e.0) e.1) }
     {
         match self

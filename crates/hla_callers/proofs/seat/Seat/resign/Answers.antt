@@ -7,6 +7,7 @@ use Rattle.hla_machine.specs.declared.step.Record.{Record}
 use Rattle.hla_machine.specs.declared.step.Step.TheVariants.{Call}
 use Rattle.hla_callers.specs.Callers.{Caller, HasAnswered, HasResigned}
 use Rattle.hla_callers.proofs.Calls.{resigned_acted, unresigned_acted}
+use Rattle.hla_callers.proofs.Known.{resigned_replays}
 use Rattle.hla_callers.proofs.seat.Seat.resign.Goals as goal
 
 pub returns-in-Ok-clause-resigned : goal.returns-in-Ok-clause-resigned
@@ -28,3 +29,7 @@ returns-in-Ok-clause-refused g c =
     c.args.execution asked c.in-Ok.resigned.0.own c.in-Ok.resigned.0.answer c.in-Ok.resigned.0.own.choice c.resigned_with.result
     c.in-Ok.ensures.asked refl
     (c.push_reserved.ensures.items ∙ ap (λ (rs : List Record). rs ++ c.in-Ok.resigned.0.own ∷ []) c.reserve.ensures.items) c.in-Ok.ensures.share c.resigned_with.ensures.err)
+
+pub returns-in-Ok-clause-replays : goal.returns-in-Ok-clause-replays
+returns-in-Ok-clause-replays g c =
+    resigned_replays c.resigned_with.result c.in-Ok.resigned.2 c.resign-done.new.self.held.history c.resigned_with.ensures.until c.in-Ok.ensures.until c.in-Ok.ensures.replays
