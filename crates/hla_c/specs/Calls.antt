@@ -10,7 +10,7 @@ use Rattle.hla_machine.specs.declared.step.Step.{Step}
 use Rattle.hla_machine.specs.declared.step.Step.TheVariants.{Call, Tick}
 use Rattle.hla_machine.specs.declared.step.Answer.{Answer}
 use Rattle.hla_machine.specs.declared.step.Answer.TheVariants as answer
-use Rattle.hla_session.specs.Calls.{IsCalled, IsRefused, HasStepped}
+use Rattle.hla_session.specs.Calls.{IsCalled, IsServiceCalledOrUncopied, IsRefused, HasStepped}
 use Rattle.hla_c.specs.Held.{Owned}
 use Rattle.hla_plain.specs.declared.data.ValueHead.{ValueHead}
 use Rattle.hla_plain.specs.declared.data.CallbackData.{CallbackData}
@@ -34,6 +34,13 @@ IsStepAnswered (Some old) step says code (Some new) =
 -- a joined federate's call of a service
 abbrev pub IsCallServed : Option Owned → ℕ → Service → (Answer → Type 0) → ℕ → Option Owned → Type 0
 IsCallServed old federate service says code new = IsStepAnswered old (Call federate service) says code new
+
+-- likewise of a service whose list, name or label is copied: there may be no memory for the copy, and then nothing was done
+abbrev pub IsCallServedOrUncopied : Option Owned → ℕ → Service → (Answer → Type 0) → ℕ → Option Owned → Type 0
+IsCallServedOrUncopied None federate service says code new = (code ≡ handle_closed) × (new ≡ None)
+IsCallServedOrUncopied (Some old) federate service says code None = ⊥
+IsCallServedOrUncopied (Some old) federate service says code (Some new) =
+    (r : Result Answer Fault) × (code ≡ code_of r) × IfOk r says × IsServiceCalledOrUncopied old.session federate service r new.session
 
 -- a tick, whose callback takes the place of the last one
 abbrev pub IsTicked : Option Owned → ℕ → CallbackData → ℕ → Option Owned → Type 0
@@ -61,6 +68,11 @@ abbrev pub IsCallServedIn : {T : Type 0} → Option Owned → ℕ → Option T �
 IsCallServedIn old federate (Some x) service says code new = IsCallServed old federate (service x) says code new
 IsCallServedIn old federate None service says code new = IsIdle old no_such_number code new
 
+-- likewise of a service whose list is copied
+abbrev pub IsCallServedInOrUncopied : {T : Type 0} → Option Owned → ℕ → Option T → (T → Service) → (Answer → Type 0) → ℕ → Option Owned → Type 0
+IsCallServedInOrUncopied old federate (Some x) service says code new = IsCallServedOrUncopied old federate (service x) says code new
+IsCallServedInOrUncopied old federate None service says code new = IsIdle old no_such_number code new
+
 -- a text was written with its length, or there was no room for it, and its length alone was written
 abbrev pub IsTextWritten : List ℕ → List ℕ → List ℕ → ℕ → ℕ → Type 0
 IsTextWritten text before after used code =
@@ -81,14 +93,14 @@ abbrev pub IsTextGiven : Option Owned → (Owned → List ℕ) → List ℕ → 
 IsTextGiven None text before after unused used code new = (code ≡ handle_closed) × (new ≡ None) × (after ≡ before) × (used ≡ unused)
 IsTextGiven (Some old) text before after unused used code new = (new ≡ Some old) × IsTextWritten (text old) before after used code
 
--- the values of the last callback are written, or there was no room for all, and nothing was written
+-- the values of the last callback are written; or there was no room for their heads or for their bytes, and nothing was written
 abbrev pub AreValuesTold : Option Owned → List ValueHead → List ValueHead → List ℕ → List ℕ → ℕ → Option Owned → Type 0
 AreValuesTold None heads heads' bytes bytes' code new = (code ≡ handle_closed) × (new ≡ None) × (heads' ≡ heads) × (bytes' ≡ bytes)
 AreValuesTold (Some old) heads heads' bytes bytes' code new =
     let vs = callback_values old.session.callback in
     (new ≡ Some old)
     × (((code ≡ 0) × (heads' ≡ map head_of vs ++ drop (length vs) heads) × (bytes' ≡ bytes_in vs ++ drop (length (bytes_in vs)) bytes))
-    ⊎ ((code ≡ no_room) × (heads' ≡ heads) × (bytes' ≡ bytes)))
+    ⊎ ((code ≡ no_room) × ((length heads < length vs) ⊎ (length bytes < length (bytes_in vs))) × (heads' ≡ heads) × (bytes' ≡ bytes)))
 
 -- the name of a fault is written, if there is one of this number
 abbrev pub IsFaultNamed : ℕ → List ℕ → List ℕ → ℕ → ℕ → ℕ → Type 0

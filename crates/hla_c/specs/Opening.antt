@@ -17,11 +17,12 @@ IsNew fed new =
     (c : CatalogueValue) × ReadsAs (Ok c) (reading_of fed) × (state_of new.session.federation ≡ new_components c)
     × (new.session.catalogue ≡ c) × (new.session.callback ≡ None)
 
--- the file has this fault, which is written; or memory ran out, and nothing is written but that it ran out in reading
+-- the file has this fault, or reading it ran out of memory, and that is written; or memory ran out behind the reading, and nothing
+-- is written
 abbrev pub IsRefusedAs : List ℕ → FedFaultData → FedFaultData → ℕ → Type 0
 IsRefusedAs fed before after code =
     ((f : FedFault) × ReadsAs (Err f) (reading_of fed) × (after ≡ fed_fault_data f) × (code ≡ number_of (fault_of_fed f.kind)))
-    ⊎ (code ≡ 38)
+    ⊎ ((c : CatalogueValue) × ReadsAs (Ok c) (reading_of fed) × (code ≡ 38) × (after ≡ before))
 
 abbrev pub IsOpened : Option Owned → List ℕ → FedFaultData → FedFaultData → ℕ → Option Owned → Type 0
 IsOpened (Some old) fed before after code new = (code ≡ handle_open) × (new ≡ Some old) × (after ≡ before)

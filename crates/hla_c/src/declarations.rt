@@ -3,9 +3,9 @@
 ghost use Rattle.std.specs.Prelude.{◌≡◌, Some};
 ghost use Rattle.hla_machine.specs.declared.service.Service.TheVariants as service;
 ghost use Rattle.hla_machine.specs.declared.step.Answer.TheVariants as answer;
-ghost use Rattle.hla_c.specs.Calls.{IsCallServed};
+ghost use Rattle.hla_c.specs.Calls.{IsCallServed, IsCallServedOrUncopied};
 
-use crate::codes::{HANDLE_CLOSED, code_of, code_of_done};
+use crate::codes::{HANDLE_CLOSED, code_of_done};
 use crate::handle::Handle;
 use std::alloc::Global;
 
@@ -20,7 +20,7 @@ pub extern "C" fn hla_publish_object_class(
     class: u32,
     attributes: &[u32],
 ) -> u32
-    ensures answered { IsCallServed handle.old.sealed.content federate
+    ensures answered { IsCallServedOrUncopied handle.old.sealed.content federate
         (service.PublishObjectClass class attributes.now)
         (λ a. a ≡ answer.Done) result handle.new.sealed.content }
 {
@@ -65,7 +65,7 @@ pub extern "C" fn hla_subscribe_object_class_attributes(
     class: u32,
     attributes: &[u32],
 ) -> u32
-    ensures answered { IsCallServed handle.old.sealed.content federate
+    ensures answered { IsCallServedOrUncopied handle.old.sealed.content federate
         (service.SubscribeObjectClassAttributes class attributes.now)
         (λ a. a ≡ answer.Done) result handle.new.sealed.content }
 {

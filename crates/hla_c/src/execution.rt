@@ -11,11 +11,8 @@ ghost use Rattle.hla_plain.specs.Words.{resign_action_from};
 ghost use Rattle.hla_c.specs.Calls.{IsStepAnswered, IsCallServedIn, IsTicked};
 
 use crate::codes::{HANDLE_CLOSED, NO_SUCH_NUMBER, code_of, code_of_done};
-use crate::content::Content;
 use crate::handle::Handle;
-use hla_fed_file::read;
 use hla_plain::{CallbackData, CarriedData, callback_data, carried_data, resign_action_from};
-use hla_session::Session;
 use std::alloc::Global;
 
 /// Join Federation Execution (HLA 1.3, federation management), under a name of 1 to 64 bytes. Its number is written.

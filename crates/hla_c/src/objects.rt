@@ -6,7 +6,7 @@ ghost use Rattle.hla_machine.specs.declared.service.Service.TheVariants as servi
 ghost use Rattle.hla_machine.specs.declared.step.Answer.TheVariants as answer;
 ghost use Rattle.hla_plain.specs.Telling.{event_data};
 ghost use Rattle.hla_plain.specs.Words.{order_from};
-ghost use Rattle.hla_c.specs.Calls.{IsCallServed, IsCallServedWith, IsCallServedIn};
+ghost use Rattle.hla_c.specs.Calls.{IsCallServed, IsCallServedOrUncopied, IsCallServedWith, IsCallServedIn, IsCallServedInOrUncopied};
 
 use crate::codes::{HANDLE_CLOSED, NO_SUCH_NUMBER, code_of, code_of_done};
 use crate::handle::Handle;
@@ -58,7 +58,7 @@ pub extern "C" fn hla_register_named_object_instance(
     name: &[u8],
     object: &mut u32,
 ) -> u32
-    ensures answered { IsCallServed handle.old.sealed.content federate
+    ensures answered { IsCallServedOrUncopied handle.old.sealed.content federate
         (service.RegisterObjectInstance class (Some name.now))
         (λ a. (name : List ℕ) × (a ≡ answer.Registered object.new name)) result
         handle.new.sealed.content }
@@ -80,11 +80,9 @@ pub extern "C" fn hla_register_named_object_instance(
     }
 }
 
-/// Update Attribute Values (HLA 1.3, object management), with a stamp in ticks where they are to be given in time-stamp
-/// order. The message in time-stamp order is written if there is one, by which it may be retracted. Where an
-/// attribute is named twice, the later value counts. `ObjectNotKnown`; `AttributeNotDefined`; `AttributeNotOwned`;
-/// `AttributeNotPublished`; `InvalidFederationTime` where the stamp is above 10^18 or below the least that the federate
-/// may send; `LimitReached` after 10^18 messages.
+/// Update Attribute Values (HLA 1.3, object management), without a stamp: all is given in receive order, and the event that
+/// is written is 0 and 0. Where an attribute is named twice, the later value counts. `ObjectNotKnown`;
+/// `AttributeNotDefined`; `AttributeNotOwned`; `AttributeNotPublished`; `LimitReached` after 10^18 messages.
 #[unsafe(no_mangle)]
 pub extern "C" fn hla_update_attribute_values(
     handle: &mut Handle,
@@ -123,11 +121,11 @@ pub extern "C" fn hla_update_attribute_values(
     }
 }
 
-/// Update Attribute Values (HLA 1.3, object management), with a stamp in ticks where they are to be given in time-stamp
-/// order. The message in time-stamp order is written if there is one, by which it may be retracted. Where an
-/// attribute is named twice, the later value counts. `ObjectNotKnown`; `AttributeNotDefined`; `AttributeNotOwned`;
-/// `AttributeNotPublished`; `InvalidFederationTime` where the stamp is above 10^18 or below the least that the federate
-/// may send; `LimitReached` after 10^18 messages.
+/// Update Attribute Values (HLA 1.3, object management), with a stamp in ticks: where the federate regulates, what goes in
+/// time-stamp order has it, and its event is written, by which it may be retracted. Where an attribute is named twice, the
+/// later value counts. `ObjectNotKnown`; `AttributeNotDefined`; `AttributeNotOwned`; `AttributeNotPublished`;
+/// `InvalidFederationTime` where the stamp is above 10^18 or below the least that a regulating federate may send;
+/// `LimitReached` after 10^18 messages.
 #[unsafe(no_mangle)]
 pub extern "C" fn hla_update_attribute_values_at(
     handle: &mut Handle,
@@ -168,11 +166,9 @@ pub extern "C" fn hla_update_attribute_values_at(
     }
 }
 
-/// Send Interaction (HLA 1.3, object management), with a stamp in ticks where it is to be given in time-stamp order.
-/// The message in time-stamp order is written if there is one. Where a parameter is named twice, the later
-/// value counts. `InteractionClassNotDefined`; `InteractionParameterNotDefined`; `InteractionClassNotPublished`;
-/// `InvalidFederationTime` where the stamp is above 10^18 or below the least that the federate may send; `LimitReached`
-/// after 10^18 messages.
+/// Send Interaction (HLA 1.3, object management), without a stamp: it is given in receive order, and the event that is
+/// written is 0 and 0. Where a parameter is named twice, the later value counts. `InteractionClassNotDefined`;
+/// `InteractionParameterNotDefined`; `InteractionClassNotPublished`; `LimitReached` after 10^18 messages.
 #[unsafe(no_mangle)]
 pub extern "C" fn hla_send_interaction(
     handle: &mut Handle,
@@ -211,11 +207,11 @@ pub extern "C" fn hla_send_interaction(
     }
 }
 
-/// Send Interaction (HLA 1.3, object management), with a stamp in ticks where it is to be given in time-stamp order.
-/// The message in time-stamp order is written if there is one. Where a parameter is named twice, the later
-/// value counts. `InteractionClassNotDefined`; `InteractionParameterNotDefined`; `InteractionClassNotPublished`;
-/// `InvalidFederationTime` where the stamp is above 10^18 or below the least that the federate may send; `LimitReached`
-/// after 10^18 messages.
+/// Send Interaction (HLA 1.3, object management), with a stamp in ticks: where the federate regulates, an interaction that
+/// goes in time-stamp order has it, and its event is written, by which it may be retracted. Where a parameter is named
+/// twice, the later value counts. `InteractionClassNotDefined`; `InteractionParameterNotDefined`;
+/// `InteractionClassNotPublished`; `InvalidFederationTime` where the stamp is above 10^18 or below the least that a
+/// regulating federate may send; `LimitReached` after 10^18 messages.
 #[unsafe(no_mangle)]
 pub extern "C" fn hla_send_interaction_at(
     handle: &mut Handle,
@@ -255,9 +251,8 @@ pub extern "C" fn hla_send_interaction_at(
     }
 }
 
-/// Delete Object Instance (HLA 1.3, object management): an object that the federate registered. `ObjectNotKnown`;
-/// `DeletePrivilegeNotHeld`; `InvalidFederationTime` where the stamp is above 10^18 or below the least that the
-/// federate may send; `LimitReached` after 10^18 messages.
+/// Delete Object Instance (HLA 1.3, object management), without a stamp: an object that the federate registered.
+/// `ObjectNotKnown`; `DeletePrivilegeNotHeld`; `LimitReached` after 10^18 messages.
 #[unsafe(no_mangle)]
 pub extern "C" fn hla_delete_object_instance(
     handle: &mut Handle,
@@ -317,9 +312,9 @@ pub extern "C" fn hla_change_attribute_order_type(
     attributes: &[u32],
     order: u32,
 ) -> u32
-    ensures answered { IsCallServedIn handle.old.sealed.content federate (order_from order)
-        (λ way. service.ChangeAttributeOrderType object attributes.now way) (λ a. a ≡ answer.Done)
-        result handle.new.sealed.content }
+    ensures answered { IsCallServedInOrUncopied handle.old.sealed.content federate
+        (order_from order) (λ way. service.ChangeAttributeOrderType object attributes.now way)
+        (λ a. a ≡ answer.Done) result handle.new.sealed.content }
 {
     let Some(mut content) = handle.take(alloc) else {
         return HANDLE_CLOSED;

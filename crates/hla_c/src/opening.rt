@@ -13,7 +13,7 @@ use hla_session::Session;
 use std::alloc::Global;
 
 /// An execution that no federate has joined, of what a FED file declares; else the code, with the fault of the file
-/// where it has one.
+/// where it has one, or with the fault that reading it ran out of memory.
 fn opened(alloc: Global, fed: &[u8], fault: &mut FedFaultData) -> Result<Box<Content>, u32>
     ensures ok { IfOk result (λ b. IsNew fed.now b.value) }
     ensures quiet { IfOk result (λ b. fault.new ≡ fault.old) }
@@ -38,8 +38,9 @@ fn opened(alloc: Global, fed: &[u8], fault: &mut FedFaultData) -> Result<Box<Con
 
 /// Create Federation Execution (HLA 1.3, federation management), from the bytes of its FED file: the handle, which was
 /// zeroed or closed, stands for an execution that no federate has joined. `ErrorReadingFED` where the file has a fault,
-/// which is written with its line; `OutOfMemory` where a growth was refused; a code of its own where the handle is open.
-/// Nothing has changed at any fault.
+/// which is written with its line; `OutOfMemory` where a growth was refused, which is written as a fault of the file if it
+/// was in reading, and else nothing is; a code of its own where the handle is open. The handle stays as it was at any
+/// fault.
 #[unsafe(no_mangle)]
 pub extern "C" fn hla_open(
     handle: &mut Handle,

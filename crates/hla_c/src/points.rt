@@ -3,9 +3,9 @@
 ghost use Rattle.std.specs.Prelude.{◌≡◌, Some};
 ghost use Rattle.hla_machine.specs.declared.service.Service.TheVariants as service;
 ghost use Rattle.hla_machine.specs.declared.step.Answer.TheVariants as answer;
-ghost use Rattle.hla_c.specs.Calls.{IsCallServed};
+ghost use Rattle.hla_c.specs.Calls.{IsCallServedOrUncopied};
 
-use crate::codes::{HANDLE_CLOSED, code_of, code_of_done};
+use crate::codes::{HANDLE_CLOSED, code_of_done};
 use crate::handle::Handle;
 use std::alloc::Global;
 
@@ -20,7 +20,7 @@ pub extern "C" fn hla_register_federation_synchronization_point(
     federate: u32,
     label: &[u8],
 ) -> u32
-    ensures answered { IsCallServed handle.old.sealed.content federate
+    ensures answered { IsCallServedOrUncopied handle.old.sealed.content federate
         (service.RegisterFederationSynchronizationPoint label.now)
         (λ a. a ≡ answer.Done) result handle.new.sealed.content }
 {
@@ -45,7 +45,7 @@ pub extern "C" fn hla_synchronization_point_achieved(
     federate: u32,
     label: &[u8],
 ) -> u32
-    ensures answered { IsCallServed handle.old.sealed.content federate
+    ensures answered { IsCallServedOrUncopied handle.old.sealed.content federate
         (service.SynchronizationPointAchieved label.now)
         (λ a. a ≡ answer.Done) result handle.new.sealed.content }
 {

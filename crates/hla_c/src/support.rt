@@ -3,9 +3,9 @@
 ghost use Rattle.std.specs.Prelude.{◌≡◌, ◌<◌, Some};
 ghost use Rattle.hla_machine.specs.declared.service.Service.TheVariants as service;
 ghost use Rattle.hla_machine.specs.declared.step.Answer.TheVariants as answer;
-ghost use Rattle.hla_c.specs.Calls.{IsCallServed, IsNameGiven};
+ghost use Rattle.hla_c.specs.Calls.{IsCallServedOrUncopied, IsNameGiven};
 
-use crate::codes::{HANDLE_CLOSED, code_of, code_of_done};
+use crate::codes::{HANDLE_CLOSED, code_of};
 use crate::handle::Handle;
 use crate::texts::written;
 use std::alloc::Global;
@@ -20,7 +20,7 @@ pub extern "C" fn hla_get_object_class_handle(
     name: &[u8],
     number: &mut u32,
 ) -> u32
-    ensures answered { IsCallServed handle.old.sealed.content federate
+    ensures answered { IsCallServedOrUncopied handle.old.sealed.content federate
         (service.GetObjectClassHandle name.now)
         (λ a. a ≡ answer.Handle number.new) result handle.new.sealed.content }
     ensures unchanged { 0 < result → number.new ≡ number.old }
@@ -51,7 +51,7 @@ pub extern "C" fn hla_get_interaction_class_handle(
     name: &[u8],
     number: &mut u32,
 ) -> u32
-    ensures answered { IsCallServed handle.old.sealed.content federate
+    ensures answered { IsCallServedOrUncopied handle.old.sealed.content federate
         (service.GetInteractionClassHandle name.now)
         (λ a. a ≡ answer.Handle number.new) result handle.new.sealed.content }
     ensures unchanged { 0 < result → number.new ≡ number.old }
@@ -83,7 +83,7 @@ pub extern "C" fn hla_get_attribute_handle(
     class: u32,
     number: &mut u32,
 ) -> u32
-    ensures answered { IsCallServed handle.old.sealed.content federate
+    ensures answered { IsCallServedOrUncopied handle.old.sealed.content federate
         (service.GetAttributeHandle name.now class)
         (λ a. a ≡ answer.Handle number.new) result handle.new.sealed.content }
     ensures unchanged { 0 < result → number.new ≡ number.old }
@@ -115,7 +115,7 @@ pub extern "C" fn hla_get_parameter_handle(
     class: u32,
     number: &mut u32,
 ) -> u32
-    ensures answered { IsCallServed handle.old.sealed.content federate
+    ensures answered { IsCallServedOrUncopied handle.old.sealed.content federate
         (service.GetParameterHandle name.now class)
         (λ a. a ≡ answer.Handle number.new) result handle.new.sealed.content }
     ensures unchanged { 0 < result → number.new ≡ number.old }
@@ -146,7 +146,7 @@ pub extern "C" fn hla_get_object_instance_handle(
     name: &[u8],
     number: &mut u32,
 ) -> u32
-    ensures answered { IsCallServed handle.old.sealed.content federate
+    ensures answered { IsCallServedOrUncopied handle.old.sealed.content federate
         (service.GetObjectInstanceHandle name.now)
         (λ a. a ≡ answer.Handle number.new) result handle.new.sealed.content }
     ensures unchanged { 0 < result → number.new ≡ number.old }

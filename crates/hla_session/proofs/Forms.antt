@@ -1,5 +1,5 @@
 -- What the federation's step makes of a session's call
-use Rattle.std.proofs.Common.{◌≡◌, None, Some, sym, refl, inl, Result, Ok, Err}
+use Rattle.std.proofs.Common.{◌≡◌, None, Some, sym, refl, Result, Ok, Err}
 use Rattle.hla_base.specs.declared.fault.Fault.{Fault}
 use Rattle.hla_machine.specs.declared.step.Step.{Step}
 use Rattle.hla_machine.specs.declared.step.Answer.{Answer}
@@ -20,4 +20,4 @@ answer_form s step a is = ends_in_form (Some (record { components = s; heard = �
 -- a step of the federation is a call
 pub called : (old : Session) (new : FederationValue) (step : Step) (result : Result Answer Fault) → DoesStep old.federation step result new → IsCalled old step result (record old { federation = new })
 called old new step (Ok a) does = ((does.outcome, does.state, refl), refl)
-called old new step (Err e) does = (inl does.refused, λ i. record old { federation = does.unchanged i })
+called old new step (Err e) does = (does.refused, λ i. record old { federation = does.unchanged i })

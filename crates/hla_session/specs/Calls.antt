@@ -20,18 +20,26 @@ HasStepped old step a new =
     × (state_of new.federation ≡ (next (state_of old.federation) step).state)
     × (new.catalogue ≡ old.catalogue)
 
--- the step is refused as the definitions say, or what it names could not be copied
+-- the step is refused as the definitions say, or for want of memory, if it takes any
 abbrev pub IsRefused : Session → Step → Fault → Type 0
-IsRefused old step e = IsRefusedWith (state_of old.federation) step e ⊎ (e ≡ fault.OutOfMemory)
+IsRefused old step e = IsRefusedWith (state_of old.federation) step e
 
 -- a call is a step, and the last callback stays; or it is refused, and nothing has changed
 abbrev pub IsCalled : Session → Step → Result Answer Fault → Session → Type 0
 IsCalled old step (Ok a) new = HasStepped old step a new × (new.callback ≡ old.callback)
 IsCalled old step (Err e) new = IsRefused old step e × (new ≡ old)
 
+-- a call that first copies what it was handed: it is made, or there was no memory for the copy, and nothing has changed
+abbrev pub IsCalledOrUncopied : Session → Step → Result Answer Fault → Session → Type 0
+IsCalledOrUncopied old step result new = IsCalled old step result new ⊎ ((result ≡ Err fault.OutOfMemory) × (new ≡ old))
+
 -- a joined federate's call of a service
 abbrev pub IsServiceCalled : Session → ℕ → Service → Result Answer Fault → Session → Type 0
 IsServiceCalled old federate service = IsCalled old (Call federate service)
+
+-- likewise of a service whose list, name or label is copied
+abbrev pub IsServiceCalledOrUncopied : Session → ℕ → Service → Result Answer Fault → Session → Type 0
+IsServiceCalledOrUncopied old federate service = IsCalledOrUncopied old (Call federate service)
 
 -- a call that answers nothing
 abbrev pub no_answer : Unit {0} → Answer

@@ -2,7 +2,7 @@
 
 ghost use Rattle.hla_machine.specs.declared.service.Service.TheVariants as service;
 ghost use Rattle.hla_federation.specs.Steps.Answering.{answered_as};
-ghost use Rattle.hla_session.specs.Calls.{IsServiceCalled, no_answer};
+ghost use Rattle.hla_session.specs.Calls.{IsServiceCalled, IsServiceCalledOrUncopied, no_answer};
 
 use crate::lists::list_of_numbers;
 use crate::session::Session;
@@ -10,8 +10,9 @@ use hla_base::{AttributeNo, ClassNo, Fault, FederateNo};
 use hla_machine::Service;
 use std::alloc::Global;
 
-// Besides the faults that are told at each call: `FederateNotExecutionMember` comes before all others where the federate
-// is not joined, and `OutOfMemory` where a growth was refused. Nothing has changed at any fault.
+/// Besides the faults that are told at each call: `FederateNotExecutionMember` comes before all others where the federate
+/// is not joined, and `OutOfMemory` where a growth was refused; at a call that has an `alloc` that may be the copy of what
+/// it is handed, before all else. Nothing has changed at any fault.
 impl Session {
     /// Publish Object Class (HLA 1.3, declaration management): from now on the federate may register objects of this class
     /// and update these attributes of them, in place of what it published of the class before. `ObjectClassNotDefined`;
@@ -23,7 +24,7 @@ impl Session {
         class: ClassNo,
         attributes: &[AttributeNo],
     ) -> Result<(), Fault>
-        ensures { IsServiceCalled self.old federate
+        ensures { IsServiceCalledOrUncopied self.old federate
             (service.PublishObjectClass class attributes.now)
             (answered_as no_answer result) self.new }
     {
@@ -53,7 +54,7 @@ impl Session {
         class: ClassNo,
         attributes: &[AttributeNo],
     ) -> Result<(), Fault>
-        ensures { IsServiceCalled self.old federate
+        ensures { IsServiceCalledOrUncopied self.old federate
             (service.SubscribeObjectClassAttributes class attributes.now)
             (answered_as no_answer result)
             self.new }

@@ -1,10 +1,10 @@
-//! Object management of a session.
+//! Object management of a session; and of time management Retract and the changes of orders.
 
 ghost use Rattle.std.specs.Prelude.{None, Some};
 ghost use Rattle.hla_machine.specs.declared.service.Service.TheVariants as service;
 ghost use Rattle.hla_machine.specs.declared.step.Answer.TheVariants as answer;
 ghost use Rattle.hla_federation.specs.Steps.Answering.{answered_as};
-ghost use Rattle.hla_session.specs.Calls.{IsServiceCalled, no_answer};
+ghost use Rattle.hla_session.specs.Calls.{IsServiceCalled, IsServiceCalledOrUncopied, no_answer};
 
 use crate::answers::Registration;
 use crate::lists::{list_of_bytes, list_of_numbers};
@@ -16,8 +16,9 @@ use hla_catalogue::Order;
 use hla_machine::Service;
 use std::alloc::Global;
 
-// Besides the faults that are told at each call: `FederateNotExecutionMember` comes before all others where the federate
-// is not joined, and `OutOfMemory` where a growth was refused. Nothing has changed at any fault.
+/// Besides the faults that are told at each call: `FederateNotExecutionMember` comes before all others where the federate
+/// is not joined, and `OutOfMemory` where a growth was refused; at a call that has an `alloc` that may be the copy of what
+/// it is handed, before all else. Nothing has changed at any fault.
 impl Session {
     /// Register Object Instance (HLA 1.3, object management): a new object of a class that the federate publishes, and
     /// which it then owns. Answers its number H and its name, which is `object-H`. `ObjectClassNotDefined`;
@@ -48,7 +49,7 @@ impl Session {
         class: ClassNo,
         name: &[u8],
     ) -> Result<Registration, Fault>
-        ensures { IsServiceCalled self.old federate
+        ensures { IsServiceCalledOrUncopied self.old federate
             (service.RegisterObjectInstance class (Some name.now))
             (answered_as (λ r. answer.Registered r.object r.name) result) self.new }
     {
@@ -140,7 +141,7 @@ impl Session {
         attributes: &[AttributeNo],
         order: Order,
     ) -> Result<(), Fault>
-        ensures { IsServiceCalled self.old federate
+        ensures { IsServiceCalledOrUncopied self.old federate
             (service.ChangeAttributeOrderType object attributes.now order)
             (answered_as no_answer result)
             self.new }

@@ -3,7 +3,7 @@
 ghost use Rattle.hla_machine.specs.declared.service.Service.TheVariants as service;
 ghost use Rattle.hla_machine.specs.declared.step.Answer.TheVariants as answer;
 ghost use Rattle.hla_federation.specs.Steps.Answering.{answered_as};
-ghost use Rattle.hla_session.specs.Calls.{IsServiceCalled};
+ghost use Rattle.hla_session.specs.Calls.{IsServiceCalled, IsServiceCalledOrUncopied};
 
 use crate::lists::list_of_bytes;
 use crate::session::Session;
@@ -11,8 +11,9 @@ use hla_base::{AttributeNo, ClassNo, Fault, FederateNo, List, ObjectNo, Paramete
 use hla_machine::Service;
 use std::alloc::Global;
 
-// Besides the faults that are told at each call: `FederateNotExecutionMember` comes before all others where the federate
-// is not joined, and `OutOfMemory` where a growth was refused. Nothing has changed at any fault.
+/// Besides the faults that are told at each call: `FederateNotExecutionMember` comes before all others where the federate
+/// is not joined, and `OutOfMemory` where a growth was refused; at a call that has an `alloc` that may be the copy of what
+/// it is handed, before all else. Nothing has changed at any fault.
 impl Session {
     /// Get Object Class Handle (HLA 1.3, support services), of a class by its path or by the end of it. Answers its
     /// number. `NameNotFound`.
@@ -22,7 +23,8 @@ impl Session {
         federate: FederateNo,
         name: &[u8],
     ) -> Result<ClassNo, Fault>
-        ensures { IsServiceCalled self.old federate (service.GetObjectClassHandle name.now)
+        ensures { IsServiceCalledOrUncopied self.old federate
+            (service.GetObjectClassHandle name.now)
             (answered_as answer.Handle result) self.new }
     {
         let name = list_of_bytes(alloc, name)?;
@@ -37,7 +39,8 @@ impl Session {
         federate: FederateNo,
         name: &[u8],
     ) -> Result<ClassNo, Fault>
-        ensures { IsServiceCalled self.old federate (service.GetInteractionClassHandle name.now)
+        ensures { IsServiceCalledOrUncopied self.old federate
+            (service.GetInteractionClassHandle name.now)
             (answered_as answer.Handle result) self.new }
     {
         let name = list_of_bytes(alloc, name)?;
@@ -53,7 +56,8 @@ impl Session {
         name: &[u8],
         class: ClassNo,
     ) -> Result<AttributeNo, Fault>
-        ensures { IsServiceCalled self.old federate (service.GetAttributeHandle name.now class)
+        ensures { IsServiceCalledOrUncopied self.old federate
+            (service.GetAttributeHandle name.now class)
             (answered_as answer.Handle result) self.new }
     {
         let name = list_of_bytes(alloc, name)?;
@@ -69,7 +73,8 @@ impl Session {
         name: &[u8],
         class: ClassNo,
     ) -> Result<ParameterNo, Fault>
-        ensures { IsServiceCalled self.old federate (service.GetParameterHandle name.now class)
+        ensures { IsServiceCalledOrUncopied self.old federate
+            (service.GetParameterHandle name.now class)
             (answered_as answer.Handle result) self.new }
     {
         let name = list_of_bytes(alloc, name)?;
@@ -84,7 +89,8 @@ impl Session {
         federate: FederateNo,
         name: &[u8],
     ) -> Result<ObjectNo, Fault>
-        ensures { IsServiceCalled self.old federate (service.GetObjectInstanceHandle name.now)
+        ensures { IsServiceCalledOrUncopied self.old federate
+            (service.GetObjectInstanceHandle name.now)
             (answered_as answer.Handle result) self.new }
     {
         let name = list_of_bytes(alloc, name)?;

@@ -2,7 +2,7 @@
 
 ghost use Rattle.hla_machine.specs.declared.service.Service.TheVariants as service;
 ghost use Rattle.hla_federation.specs.Steps.Answering.{answered_as};
-ghost use Rattle.hla_session.specs.Calls.{IsServiceCalled, no_answer};
+ghost use Rattle.hla_session.specs.Calls.{IsServiceCalledOrUncopied, no_answer};
 
 use crate::lists::list_of_bytes;
 use crate::session::Session;
@@ -10,8 +10,9 @@ use hla_base::{Fault, FederateNo};
 use hla_machine::Service;
 use std::alloc::Global;
 
-// Besides the faults that are told at each call: `FederateNotExecutionMember` comes before all others where the federate
-// is not joined, and `OutOfMemory` where a growth was refused. Nothing has changed at any fault.
+/// Besides the faults that are told at each call: `FederateNotExecutionMember` comes before all others where the federate
+/// is not joined, and `OutOfMemory` where a growth was refused; at a call that has an `alloc` that may be the copy of what
+/// it is handed, before all else. Nothing has changed at any fault.
 impl Session {
     /// Register Federation Synchronization Point (HLA 1.3, federation management): a point of this label opens, its
     /// members are all who are joined, and each is told so at a tick, the federate first that it has registered the
@@ -23,7 +24,7 @@ impl Session {
         federate: FederateNo,
         label: &[u8],
     ) -> Result<(), Fault>
-        ensures { IsServiceCalled self.old federate
+        ensures { IsServiceCalledOrUncopied self.old federate
             (service.RegisterFederationSynchronizationPoint label.now)
             (answered_as no_answer result) self.new }
     {
@@ -44,7 +45,8 @@ impl Session {
         federate: FederateNo,
         label: &[u8],
     ) -> Result<(), Fault>
-        ensures { IsServiceCalled self.old federate (service.SynchronizationPointAchieved label.now)
+        ensures { IsServiceCalledOrUncopied self.old federate
+            (service.SynchronizationPointAchieved label.now)
             (answered_as no_answer result) self.new }
     {
         let label = list_of_bytes(alloc, label)?;

@@ -9,8 +9,9 @@ use crate::session::Session;
 use hla_base::{Fault, FederateNo, Ticks};
 use hla_machine::Service;
 
-// Besides the faults that are told at each call: `FederateNotExecutionMember` comes before all others where the federate
-// is not joined, and `OutOfMemory` where a growth was refused. Nothing has changed at any fault.
+/// Besides the faults that are told at each call: `FederateNotExecutionMember` comes before all others where the federate
+/// is not joined, and `OutOfMemory` where a growth was refused, which none asks for but to enable or disable time
+/// regulation and to disable time constrained. Nothing has changed at any fault.
 impl Session {
     /// Enable Time Regulation (HLA 1.3, time management), from this time on and with this lookahead, in ticks; a later
     /// tick gives the callback that it is enabled. `TimeAdvanceAlreadyInProgress`; `TimeRegulationAlreadyEnabled`;
