@@ -15,7 +15,7 @@ use Rattle.hla_transcript.specs.Watching.{Stream}
 use Rattle.hla_outcomes.specs.Running.{StopsRun, is_failed_text}
 use Rattle.hla_outcomes.specs.declared.fault.RunFault.{RunFault}
 use Rattle.hla_outcomes.specs.declared.fault.RunFault.TheVariants as unran
-use Rattle.hla_program.specs.Program.{WritesLine, Whole, Cut, Complains, PlayCause, RunCause, ListCause, memory_line}
+use Rattle.hla_program.specs.Program.{WritesLine, Whole, Cut, Complains, PlayCause, RunCause, ListCause, run_stop_status, memory_line}
 
 pub or-false : (b : Bool) → (b || false) ≡ b
 or-false true = refl
@@ -24,6 +24,15 @@ or-false false = refl
 or-true : (b : Bool) → (b || true) ≡ true
 or-true true = refl
 or-true false = refl
+
+or-not : (b c : Bool) → (b || not c) ≡ false → c ≡ true
+or-not true c none = absurd (cc none)
+or-not false true none = refl
+or-not false false none = absurd (cc none)
+
+-- where a writer has not failed, its flush handed all on
+pub flushed : (before after done handed : Bool) → after ≡ (before || not done) → after ≡ false → handed ≡ done → handed ≡ true
+flushed before after done handed failure sound is = is ∙ or-not before done (sym failure ∙ sound)
 
 -- what is written whole, or else a beginning of it
 pub tells_written : {X F : Type 0} (written : Result X F) (old new : Stream) (line : List ℕ) → OnOk written (Appends old.bytes new.bytes line) → OnErr written ((n : ℕ) × Appends old.bytes new.bytes (take n line)) → new.has_failed ≡ (old.has_failed || not (is_ok written)) → WritesLine old new line
@@ -82,6 +91,16 @@ run_cause unran.Memory old new failure = tt
 run_cause (unran.Close e) old new failure = tt
 run_cause unran.Monitor old new failure = tt
 run_cause unran.Ambassadors old new failure = tt
+
+-- a run that was stopped has another status than 0
+pub run_stop_nonzero : (why : RunFault) → run_stop_status why ≡ 0 → ⊥
+run_stop_nonzero (unran.Fed e) done = omega (arith, done)
+run_stop_nonzero (unran.Script e) done = omega (arith, done)
+run_stop_nonzero unran.Write done = omega (arith, done)
+run_stop_nonzero unran.Memory done = omega (arith, done)
+run_stop_nonzero (unran.Close e) done = omega (arith, done)
+run_stop_nonzero unran.Monitor done = omega (arith, done)
+run_stop_nonzero unran.Ambassadors done = omega (arith, done)
 
 -- with fewer ambassadors it stops as well
 pub stops_with_fewer : (fed script : List ℕ) (n m : ℕ) (old new : Option (List ℕ)) (why : RunFault) → n ≤ m → StopsRun fed script m old new why → StopsRun fed script n old new why

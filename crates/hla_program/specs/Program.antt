@@ -47,48 +47,48 @@ unwritten_line = codes "cannot write\n"
 abbrev pub memory_line : List ℕ
 memory_line = codes "out of memory\n"
 
--- why a script was not played to its end
-abbrev pub play_stop_line : PlayFault → List ℕ
-play_stop_line (unplayed.Fed e) = fed_line e
-play_stop_line (unplayed.Script e) = script_line e
-play_stop_line unplayed.Write = unwritten_line
-play_stop_line unplayed.Memory = memory_line
-
 abbrev pub transcripts_line : List ℕ
 transcripts_line = codes "transcripts differ\n"
 
 abbrev pub monitor_line : List ℕ
 monitor_line = codes "monitor differs\n"
 
--- why a script was not run to its end
-abbrev pub run_stop_line : RunFault → List ℕ
-run_stop_line (unran.Fed e) = fed_line e
-run_stop_line (unran.Script e) = script_line e
-run_stop_line unran.Write = unwritten_line
-run_stop_line unran.Memory = memory_line
-run_stop_line (unran.Close e) = transcripts_line
-run_stop_line unran.Monitor = monitor_line
-run_stop_line unran.Ambassadors = memory_line
-
--- why a FED file was not listed
-abbrev pub list_stop_line : ListFault → List ℕ
-list_stop_line (unlisted.Fed e) = fed_line e
-list_stop_line unlisted.Write = unwritten_line
-list_stop_line unlisted.Memory = memory_line
-
--- why a file of this name was not read
-abbrev pub load_stop_line : List ℕ → LoadFault → List ℕ
-load_stop_line name unread.Read = unread_line name
-load_stop_line name unread.Memory = memory_line
-
 -- a line was written whole; or a write of it failed, and a beginning of it stands
 pub data WritesLine (old new : Stream) (line : List ℕ) : Type 0 where
   Whole : Appends old.bytes new.bytes line → new.has_failed ≡ old.has_failed → WritesLine old new line
   Cut : (n : ℕ) → Appends old.bytes new.bytes (take n line) → new.has_failed ≡ true → WritesLine old new line
 
--- the line was told, or that there is no memory for it
+-- a line that takes memory was told, or that there is none for it
 abbrev pub Complains : Stream → Stream → List ℕ → Type 0
 Complains old new line = WritesLine old new line ⊎ WritesLine old new memory_line
+
+-- it was told why a script was not played to its end. Only the line of a fault in a text takes memory
+abbrev pub TellsPlayStop : PlayFault → Stream → Stream → Type 0
+TellsPlayStop (unplayed.Fed e) old new = Complains old new (fed_line e)
+TellsPlayStop (unplayed.Script e) old new = Complains old new (script_line e)
+TellsPlayStop unplayed.Write old new = WritesLine old new unwritten_line
+TellsPlayStop unplayed.Memory old new = WritesLine old new memory_line
+
+-- it was told why a script was not run to its end
+abbrev pub TellsRunStop : RunFault → Stream → Stream → Type 0
+TellsRunStop (unran.Fed e) old new = Complains old new (fed_line e)
+TellsRunStop (unran.Script e) old new = Complains old new (script_line e)
+TellsRunStop unran.Write old new = WritesLine old new unwritten_line
+TellsRunStop unran.Memory old new = WritesLine old new memory_line
+TellsRunStop (unran.Close e) old new = WritesLine old new transcripts_line
+TellsRunStop unran.Monitor old new = WritesLine old new monitor_line
+TellsRunStop unran.Ambassadors old new = WritesLine old new memory_line
+
+-- it was told why a FED file was not listed
+abbrev pub TellsListStop : ListFault → Stream → Stream → Type 0
+TellsListStop (unlisted.Fed e) old new = Complains old new (fed_line e)
+TellsListStop unlisted.Write old new = WritesLine old new unwritten_line
+TellsListStop unlisted.Memory old new = WritesLine old new memory_line
+
+-- it was told why a file of this name was not read; a line with a name in it takes memory
+abbrev pub TellsLoadStop : List ℕ → LoadFault → Stream → Stream → Type 0
+TellsLoadStop name unread.Read old new = Complains old new (unread_line name)
+TellsLoadStop name unread.Memory old new = WritesLine old new memory_line
 
 -- a failed write is the cause where one is told
 abbrev pub PlayCause : PlayFault → Stream → Type 0
@@ -117,7 +117,7 @@ ListCause unlisted.Memory out = Unit {0}
 -- a script is played over a FED file: the records of what it printed follow the next-state function, and are a run of the machine
 pub data EndsPlaying (fed script : List ℕ) (out out' err err' : Stream) (status : ℕ) : Type 0 where
   Played : (records : List Record) → IsPlayedFrom fed script out.bytes out'.bytes records → FollowNext records → IsWholeRun records → out'.has_failed ≡ false → err' ≡ err → status ≡ 0 → EndsPlaying fed script out out' err err' status
-  PlayStopped : (why : PlayFault) → StopsBy false fed script out.bytes out'.bytes why → PlayCause why out' → Complains err err' (play_stop_line why) → status ≡ 1 → EndsPlaying fed script out out' err err' status
+  PlayStopped : (why : PlayFault) → StopsBy false fed script out.bytes out'.bytes why → PlayCause why out' → TellsPlayStop why err err' → status ≡ 1 → EndsPlaying fed script out out' err err' status
 
 -- ---- what the central machine says of a script's records
 -- the records that a script over a FED file makes, whatever its transcript is written to: no line ran out of memory, and they follow
@@ -162,7 +162,7 @@ pub data EndsTelling (text : List ℕ) (wanted : ℕ) (out out' err err' : Strea
 -- a script is played over a FED file, and its records are judged: so many are a run of the machine
 pub data EndsChecking (fed script : List ℕ) (out out' err err' : Stream) (status : ℕ) : Type 0 where
   Checked : (records : List Record) → HasRecords fed script records → IsWholeRun records → EndsTelling (finding_line (Run (length records))) 0 out out' err err' status → EndsChecking fed script out out' err err' status
-  CheckStopped : (why : PlayFault) → StopsCheck fed script why → out' ≡ out → Complains err err' (play_stop_line why) → status ≡ 1 → EndsChecking fed script out out' err err' status
+  CheckStopped : (why : PlayFault) → StopsCheck fed script why → out' ≡ out → TellsPlayStop why err err' → status ≡ 1 → EndsChecking fed script out out' err err' status
 
 -- the status of a script that was not run to its end: transcripts or counts that differ have their own
 abbrev pub run_stop_status : RunFault → ℕ
@@ -189,23 +189,23 @@ IsWatchedWhere why is_watched = why ≡ unran.Monitor → is_watched ≡ true
 pub data EndsRunning (is_watched : Bool) (fed script : List ℕ) (out out' err err' : Stream) (status : ℕ) : Type 0 where
   Ran : (told : Stream) → IsRunFrom fed script out.bytes told.bytes → told.has_failed ≡ out.has_failed → (records : List Record) → IsWholeRun records → IsRunRecorded records fed script out.bytes told.bytes → (seen : Option Status) → IsSeen is_watched records seen
       → EndsJudging (length records) seen told out' err err' status → EndsRunning is_watched fed script out out' err err' status
-  RunStopped : (why : RunFault) → StopsRun fed script (script_joins script) out.bytes out'.bytes why → IsWatchedWhere why is_watched → RunCause why out' → Complains err err' (run_stop_line why) → status ≡ run_stop_status why → EndsRunning is_watched fed script out out' err err' status
+  RunStopped : (why : RunFault) → StopsRun fed script (script_joins script) out.bytes out'.bytes why → IsWatchedWhere why is_watched → RunCause why out' → TellsRunStop why err err' → status ≡ run_stop_status why → EndsRunning is_watched fed script out out' err err' status
 
 -- a FED file is listed
 pub data EndsListing (fed : List ℕ) (out out' err err' : Stream) (status : ℕ) : Type 0 where
   Listed : IsListed fed out.bytes out'.bytes → out'.has_failed ≡ false → err' ≡ err → status ≡ 0 → EndsListing fed out out' err err' status
-  ListStopped : (why : ListFault) → StopsListing fed out.bytes out'.bytes why → ListCause why out' → Complains err err' (list_stop_line why) → status ≡ 1 → EndsListing fed out out' err err' status
+  ListStopped : (why : ListFault) → StopsListing fed out.bytes out'.bytes why → ListCause why out' → TellsListStop why err err' → status ≡ 1 → EndsListing fed out out' err err' status
 
 -- ---- given the bytes of each file by its name
 -- what is to be done with a FED file and a script is done, by their names; or one of them was not read
 pub data EndsNamed (bytes_of : List ℕ → Option (List ℕ)) (Ends : List ℕ → List ℕ → Type 0) (fed_name script_name : List ℕ) (out out' err err' : Stream) (status : ℕ) : Type 0 where
   TextsRead : (fed script : List ℕ) → AreRead bytes_of fed_name script_name fed script → Ends fed script → EndsNamed bytes_of Ends fed_name script_name out out' err err' status
-  TextUnread : (name : List ℕ) (why : LoadFault) → IsFirstUnread bytes_of fed_name script_name name why → out' ≡ out → Complains err err' (load_stop_line name why) → status ≡ 1 → EndsNamed bytes_of Ends fed_name script_name out out' err err' status
+  TextUnread : (name : List ℕ) (why : LoadFault) → IsFirstUnread bytes_of fed_name script_name name why → out' ≡ out → TellsLoadStop name why err err' → status ≡ 1 → EndsNamed bytes_of Ends fed_name script_name out out' err err' status
 
 -- a FED file is listed, by its name; or it was not read
 pub data EndsListingNamed (bytes_of : List ℕ → Option (List ℕ)) (name : List ℕ) (out out' err err' : Stream) (status : ℕ) : Type 0 where
   FileRead : (bytes : List ℕ) → IsTakenOf file_limit (bytes_of name) bytes → EndsListing bytes out out' err err' status → EndsListingNamed bytes_of name out out' err err' status
-  FileUnread : (why : LoadFault) → IsStoppedOf (bytes_of name) why → out' ≡ out → Complains err err' (load_stop_line name why) → status ≡ 1 → EndsListingNamed bytes_of name out out' err err' status
+  FileUnread : (why : LoadFault) → IsStoppedOf (bytes_of name) why → out' ≡ out → TellsLoadStop name why err err' → status ≡ 1 → EndsListingNamed bytes_of name out out' err err' status
 
 -- what is asked for is done with the files that it names
 abbrev pub EndsTask : (List ℕ → Option (List ℕ)) → NamedTask → Stream → Stream → Stream → Stream → ℕ → Type 0

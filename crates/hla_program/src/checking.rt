@@ -1,6 +1,6 @@
 //! A script's records judged by the central machine.
 
-ghost use Rattle.std.specs.Prelude.{IfOk, IfErr};
+ghost use Rattle.std.specs.Prelude.{◌≡◌, true, IfOk, IfErr};
 ghost use Rattle.hla_transcript.specs.Watching.{stream_of};
 ghost use Rattle.hla_checker.specs.Faults.{IsWholeRun};
 ghost use Rattle.hla_program.specs.Program.{HasRecords, StopsCheck, IsFound, EndsChecking};
@@ -45,10 +45,10 @@ fn judge_script(alloc: Global, fed: &[u8], script: &[u8]) -> Result<Finding, Pla
     }
 }
 
-/// Plays a script over a FED file, has its records judged, and answers the status: 0 once `ok N` is on `out`, for N records
-/// that are a run of the central machine, and nothing on `errors`; 1 with one line on `errors` for the first fault of the FED
-/// file, or else for that of the script, or for want of memory, with nothing on `out`, and for a failed write. The records of a
-/// script are always a run: that one is no step of the machine (`differs K`, status 3) is never told.
+/// Plays a script over a FED file, has its records judged, and answers the status: 0 once `ok N` is on `out` and handed on, for N
+/// records that are a run of the central machine, and nothing on `errors`; 1 with one line on `errors` for the first fault of the
+/// FED file, or else for that of the script, or for want of memory, with nothing on `out`, and for a failed write. The records of
+/// a script are always a run: that one is no step of the machine (`differs K`, status 3) is never told.
 pub(crate) fn check_bytes<W: Write, E: Write>(
     alloc: Global,
     fed: &[u8],
@@ -56,9 +56,10 @@ pub(crate) fn check_bytes<W: Write, E: Write>(
     out: &mut Watched<W>,
     errors: &mut Watched<E>,
 ) -> u8
-    ensures { EndsChecking fed.now script.now
+    ensures ends { EndsChecking fed.now script.now
         (stream_of W.contents out.old) (stream_of W.contents out.new)
         (stream_of E.contents errors.old) (stream_of E.contents errors.new) result }
+    ensures handed_on { result ≡ 0 → out.new.is_handed_on ≡ true }
 {
     match judge_script(alloc, fed, script) {
         Ok(finding) => tell_finding(alloc, finding, None, out, errors),

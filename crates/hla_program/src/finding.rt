@@ -1,6 +1,6 @@
 //! What the central machine says of a script's records, and the line that tells it.
 
-ghost use Rattle.std.specs.Prelude.{◌≡◌, IfOk, IfSome, string_bytes};
+ghost use Rattle.std.specs.Prelude.{◌≡◌, ◌≢◌, true, IfOk, IfSome, string_bytes};
 ghost use Rattle.hla_transcript.specs.Watching.{stream_of};
 ghost use Rattle.hla_program.specs.Program.{EndsTelling, IsVerdict, finding_line, finding_text, finding_status};
 
@@ -75,9 +75,12 @@ pub(crate) fn tell_finding<W: Write, E: Write>(
     out: &mut Watched<W>,
     errors: &mut Watched<E>,
 ) -> u8
-    ensures { EndsTelling (finding_text finding seen) (finding_status finding)
+    ensures ends { EndsTelling (finding_text finding seen) (finding_status finding)
         (stream_of W.contents out.old) (stream_of W.contents out.new)
         (stream_of E.contents errors.old) (stream_of E.contents errors.new) result }
+
+    // With any status but 1 the text is told, and handed on.
+    ensures handed_on { result ≢ 1 → out.new.is_handed_on ≡ true }
 {
     let Ok(text) = finding_text(alloc, finding, seen) else {
         return tell_out_of_memory(errors);

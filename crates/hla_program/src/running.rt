@@ -2,7 +2,7 @@
 
 ghost use Rattle.hla_transcript.specs.Watching.{stream_of};
 ghost use Rattle.hla_base.specs.Limits.{ledger_parts};
-ghost use Rattle.std.specs.Prelude.{◌≡◌};
+ghost use Rattle.std.specs.Prelude.{◌≡◌, true};
 ghost use Rattle.hla_tasks.specs.Tasks.{Play, Check, Running, Listing, named_task};
 ghost use Rattle.hla_program.specs.Program.{EndsPlaying, EndsListing, EndsTask};
 
@@ -21,9 +21,9 @@ use std::sync::Wait;
 use std::sync::ledger::Ledger;
 use std::thread::Threads;
 
-/// Plays a script over a FED file, and answers the status: 0 once the transcript is on `out` and nothing on `errors`; 1 with
-/// one line on `errors` for the first fault of the FED file, or else for that of the script, with nothing on `out`, and for
-/// a failed write or want of memory.
+/// Plays a script over a FED file, and answers the status: 0 once the transcript is on `out`, all of it handed on, and nothing
+/// on `errors`; 1 with one line on `errors` for the first fault of the FED file, or else for that of the script, with nothing on
+/// `out`, and for a failed write or want of memory.
 fn play_bytes<W: Write, E: Write>(
     alloc: Global,
     fed: &[u8],
@@ -31,9 +31,10 @@ fn play_bytes<W: Write, E: Write>(
     out: &mut Watched<W>,
     errors: &mut Watched<E>,
 ) -> u8
-    ensures { EndsPlaying fed.now script.now
+    ensures ends { EndsPlaying fed.now script.now
         (stream_of W.contents out.old) (stream_of W.contents out.new)
         (stream_of E.contents errors.old) (stream_of E.contents errors.new) result }
+    ensures handed_on { result ≡ 0 → out.new.is_handed_on ≡ true }
 {
     let _records = match play(alloc, fed, script, out) {
         Ok(records) => records,
@@ -46,17 +47,19 @@ fn play_bytes<W: Write, E: Write>(
     DONE
 }
 
-/// Lists what a FED file declares, and answers the status: 0 once the list is on `out` and nothing on `errors`; 1 with one
-/// line on `errors` for the first fault of the FED file, with nothing on `out`, and for a failed write or want of memory.
+/// Lists what a FED file declares, and answers the status: 0 once the list is on `out`, all of it handed on, and nothing on
+/// `errors`; 1 with one line on `errors` for the first fault of the FED file, with nothing on `out`, and for a failed write or
+/// want of memory.
 fn list_bytes<W: Write, E: Write>(
     alloc: Global,
     fed: &[u8],
     out: &mut Watched<W>,
     errors: &mut Watched<E>,
 ) -> u8
-    ensures { EndsListing fed.now
+    ensures ends { EndsListing fed.now
         (stream_of W.contents out.old) (stream_of W.contents out.new)
         (stream_of E.contents errors.old) (stream_of E.contents errors.new) result }
+    ensures handed_on { result ≡ 0 → out.new.is_handed_on ≡ true }
 {
     match list(alloc, fed, out) {
         Ok(()) => {}
@@ -79,9 +82,10 @@ fn play_named<O: Opener, W: Write, E: Write>(
     out: &mut Watched<W>,
     errors: &mut Watched<E>,
 ) -> u8
-    ensures { EndsTask (O.bytes_of opener.now) (Play fed.now script.now)
+    ensures ends { EndsTask (O.bytes_of opener.now) (Play fed.now script.now)
         (stream_of W.contents out.old) (stream_of W.contents out.new)
         (stream_of E.contents errors.old) (stream_of E.contents errors.new) result }
+    ensures handed_on { result ≡ 0 → out.new.is_handed_on ≡ true }
 {
     match read_texts(alloc, opener, fed, script) {
         Ok(texts) => {
@@ -102,9 +106,10 @@ fn check_named<O: Opener, W: Write, E: Write>(
     out: &mut Watched<W>,
     errors: &mut Watched<E>,
 ) -> u8
-    ensures { EndsTask (O.bytes_of opener.now) (Check fed.now script.now)
+    ensures ends { EndsTask (O.bytes_of opener.now) (Check fed.now script.now)
         (stream_of W.contents out.old) (stream_of W.contents out.new)
         (stream_of E.contents errors.old) (stream_of E.contents errors.new) result }
+    ensures handed_on { result ≡ 0 → out.new.is_handed_on ≡ true }
 {
     match read_texts(alloc, opener, fed, script) {
         Ok(texts) => {
@@ -136,9 +141,10 @@ fn run_named<
     requires parts { means.blank.parts ≡ L.parts }
     requires all { means.blank.parts ≡ ledger_parts }
     requires book { means.opened.seen.book ≡ L.book }
-    ensures { EndsTask (O.bytes_of opener.now) (Running fed.now script.now is_watched)
+    ensures ends { EndsTask (O.bytes_of opener.now) (Running fed.now script.now is_watched)
         (stream_of W.contents out.old) (stream_of W.contents out.new)
         (stream_of E.contents errors.old) (stream_of E.contents errors.new) result }
+    ensures handed_on { result ≡ 0 → out.new.is_handed_on ≡ true }
 {
     let alloc = means.alloc;
     match read_texts(alloc, opener, fed, script) {
@@ -159,9 +165,10 @@ fn list_named<O: Opener, W: Write, E: Write>(
     out: &mut Watched<W>,
     errors: &mut Watched<E>,
 ) -> u8
-    ensures { EndsTask (O.bytes_of opener.now) (Listing fed.now)
+    ensures ends { EndsTask (O.bytes_of opener.now) (Listing fed.now)
         (stream_of W.contents out.old) (stream_of W.contents out.new)
         (stream_of E.contents errors.old) (stream_of E.contents errors.new) result }
+    ensures handed_on { result ≡ 0 → out.new.is_handed_on ≡ true }
 {
     let mut file = opener.open(fed);
     match load(alloc, &mut file, FILE_LIMIT) {
@@ -174,10 +181,11 @@ fn list_named<O: Opener, W: Write, E: Write>(
 /// handed on, and nothing on `errors`; of a check this is `ok N`, for the N records of the script, which are a run of the
 /// central machine; a run writes how its lines came out, and then `ok N` too, and behind it `monitor S G` where it is watched,
 /// for S steps and G grants that were read last. 1, with one line on `errors`: a FED file or a script is refused, or a file
-/// cannot be read, with nothing on `out`; or a write failed, or memory ran out. 3, of a run alone, with one line on `errors`: a
-/// caller's transcript is not its records of the history, or what was read last are not its counts. What a failed write to
-/// `errors` left out is lost, and the status stays. `means` has a ledger of 2,049 parts, which only a run takes. What waits for a
-/// thread or the lock is a run alone: the functions that play, check and list have no bound `Wait`.
+/// cannot be read, with nothing on `out`; or a write failed, or memory ran out. 3, of a run alone, with one line on `errors`: the
+/// infrastructure does not close, as where a caller's transcript is not its records of the history, or the counts that were read
+/// last are not the history's. What a failed write to `errors` left out is lost, and the status stays. `means` has a ledger of
+/// 2,049 parts, which only a run takes. What waits for a thread or the lock is a run alone: the functions that play, check and
+/// list have no bound `Wait`.
 pub fn do_task<
     L: Ledger + Naming + Send + Sync,
     R: Threads + Wait + Sync,
@@ -195,9 +203,10 @@ pub fn do_task<
     requires parts { means.blank.parts ≡ L.parts }
     requires all { means.blank.parts ≡ ledger_parts }
     requires book { means.opened.seen.book ≡ L.book }
-    ensures { EndsTask (O.bytes_of opener.now) (named_task task.entry)
+    ensures ends { EndsTask (O.bytes_of opener.now) (named_task task.entry)
         (stream_of W.contents out.old) (stream_of W.contents out.new)
         (stream_of E.contents errors.old) (stream_of E.contents errors.new) result }
+    ensures handed_on { result ≡ 0 → out.new.is_handed_on ≡ true }
 {
     match task {
         Task::Play { fed, script } => {

@@ -2,7 +2,7 @@
 
 ghost use Rattle.std.specs.Prelude.{◌≡◌, IfOk, OnErr, string_bytes};
 ghost use Rattle.hla_transcript.specs.Watching.{stream_of};
-ghost use Rattle.hla_program.specs.Program.{WritesLine, Complains, fault_line, fed_line, script_line, unread_line, memory_line, unwritten_line, transcripts_line, monitor_line, play_stop_line, run_stop_line, run_stop_status, list_stop_line, load_stop_line};
+ghost use Rattle.hla_program.specs.Program.{WritesLine, TellsPlayStop, TellsRunStop, TellsListStop, TellsLoadStop, fault_line, fed_line, script_line, unread_line, memory_line, unwritten_line, transcripts_line, monitor_line, run_stop_status};
 
 use crate::input::LoadFault;
 use hla_fed_file::FedFault;
@@ -96,8 +96,8 @@ fn tell_made<E: Write>(errors: &mut Watched<E>, line: Result<String, AllocError>
 
 /// Says why a script was not played to its end, and answers the status.
 pub fn tell_play_stop<E: Write>(alloc: Global, errors: &mut Watched<E>, fault: PlayFault) -> u8
-    ensures line { Complains (stream_of E.contents errors.old) (stream_of E.contents errors.new)
-        (play_stop_line fault) }
+    ensures line { TellsPlayStop fault (stream_of E.contents errors.old)
+        (stream_of E.contents errors.new) }
     ensures status { result ≡ 1 }
 {
     match fault {
@@ -108,7 +108,8 @@ pub fn tell_play_stop<E: Write>(alloc: Global, errors: &mut Watched<E>, fault: P
     }
 }
 
-/// Says that the transcript of a caller is not its records of the history, and answers the status.
+/// Says that the infrastructure did not close, as where the transcript of a caller is not its records of the history, and answers
+/// the status.
 fn tell_differing<E: Write>(errors: &mut Watched<E>) -> u8
     ensures line { WritesLine (stream_of E.contents errors.old) (stream_of E.contents errors.new)
         transcripts_line }
@@ -118,7 +119,7 @@ fn tell_differing<E: Write>(errors: &mut Watched<E>) -> u8
     DIFFERS
 }
 
-/// Says that what a monitor read last are not the counts of a beginning of the history, and answers the status.
+/// Says that the counts that a monitor read last are not those of a beginning of the history, and answers the status.
 fn tell_miscounted<E: Write>(errors: &mut Watched<E>) -> u8
     ensures line { WritesLine (stream_of E.contents errors.old) (stream_of E.contents errors.new)
         monitor_line }
@@ -131,8 +132,8 @@ fn tell_miscounted<E: Write>(errors: &mut Watched<E>) -> u8
 /// Says why a script was not run to its end, and answers the status. Too few ambassadors would be told as want of memory, but the
 /// program has enough of them.
 pub fn tell_run_stop<E: Write>(alloc: Global, errors: &mut Watched<E>, fault: RunFault) -> u8
-    ensures line { Complains (stream_of E.contents errors.old) (stream_of E.contents errors.new)
-        (run_stop_line fault) }
+    ensures line { TellsRunStop fault (stream_of E.contents errors.old)
+        (stream_of E.contents errors.new) }
     ensures status { result ≡ run_stop_status fault }
 {
     match fault {
@@ -148,8 +149,8 @@ pub fn tell_run_stop<E: Write>(alloc: Global, errors: &mut Watched<E>, fault: Ru
 
 /// Says why a FED file was not listed, and answers the status.
 pub fn tell_list_stop<E: Write>(alloc: Global, errors: &mut Watched<E>, fault: ListFault) -> u8
-    ensures line { Complains (stream_of E.contents errors.old) (stream_of E.contents errors.new)
-        (list_stop_line fault) }
+    ensures line { TellsListStop fault (stream_of E.contents errors.old)
+        (stream_of E.contents errors.new) }
     ensures status { result ≡ 1 }
 {
     match fault {
@@ -166,8 +167,8 @@ pub fn tell_load_stop<E: Write>(
     name: &str,
     fault: LoadFault,
 ) -> u8
-    ensures line { Complains (stream_of E.contents errors.old) (stream_of E.contents errors.new)
-        (load_stop_line name.now fault) }
+    ensures line { TellsLoadStop name.now fault (stream_of E.contents errors.old)
+        (stream_of E.contents errors.new) }
     ensures status { result ≡ 1 }
 {
     match fault {

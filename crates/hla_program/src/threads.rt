@@ -1,6 +1,6 @@
 //! A script run on threads, and its records judged by the central machine.
 
-ghost use Rattle.std.specs.Prelude.{◌≡◌, ◌||◌, IfOk, IfErr, OnOk, IfSome, length};
+ghost use Rattle.std.specs.Prelude.{◌≡◌, ◌||◌, true, IfOk, IfErr, OnOk, IfSome, length};
 ghost use Rattle.hla_base.specs.Limits.{ledger_parts};
 ghost use Rattle.hla_transcript.specs.Watching.{stream_of};
 ghost use Rattle.hla_checker.specs.Faults.{IsWholeRun};
@@ -55,6 +55,7 @@ fn judge<W: Write, E: Write>(
     ensures ends { EndsJudging (length closed.now) seen
         (stream_of W.contents out.old) (stream_of W.contents out.new)
         (stream_of E.contents errors.old) (stream_of E.contents errors.new) result }
+    ensures handed_on { result ≡ 0 → out.new.is_handed_on ≡ true }
 {
     match history_finding(alloc, closed) {
         Some(finding) => tell_finding(alloc, finding, seen, out, errors),
@@ -101,10 +102,11 @@ fn run_recorded<L: Ledger + Naming + Send + Sync, R: Threads + Wait + Sync, W: W
 
 /// Runs a script over a FED file, each federate on a thread of its own, has the records of the history judged, and answers the
 /// status. 0: how its lines came out is on `out` and behind it `ok N`, for N records that are a run of the central machine, and
-/// where it is watched `monitor S G`, for the steps and grants that a monitor read last; and nothing on `errors`. 3 with one line
-/// on `errors`: a caller's transcript is not its records of the history, or what the monitor read are not its counts. 1 with one
-/// line on `errors` for the first fault of the FED file, or else for that of the script, with nothing on `out`, and for want of
-/// memory and a failed write. The records of a history are always a run: that one is no step of the machine is never told.
+/// where it is watched `monitor S G`, for the steps and grants that a monitor read last, all of it handed on; and nothing on
+/// `errors`. 3 with one line on `errors`: the infrastructure does not close, as where a caller's transcript is not its records of
+/// the history, or the counts that the monitor read are not the history's. 1 with one line on `errors` for the first fault of the
+/// FED file, or else for that of the script, with nothing on `out`, and for want of memory and a failed write. The records of a
+/// history are always a run: that one is no step of the machine is never told.
 pub(crate) fn run_bytes<
     L: Ledger + Naming + Send + Sync,
     R: Threads + Wait + Sync,
@@ -122,9 +124,10 @@ pub(crate) fn run_bytes<
     requires parts { means.blank.parts ≡ L.parts }
     requires all { means.blank.parts ≡ ledger_parts }
     requires book { means.opened.seen.book ≡ L.book }
-    ensures { EndsRunning is_watched fed.now script.now
+    ensures ends { EndsRunning is_watched fed.now script.now
         (stream_of W.contents out.old) (stream_of W.contents out.new)
         (stream_of E.contents errors.old) (stream_of E.contents errors.new) result }
+    ensures handed_on { result ≡ 0 → out.new.is_handed_on ≡ true }
 {
     let alloc = means.alloc;
     let ran = run_recorded::<L, R, W>(means, is_watched, fed, script, out);

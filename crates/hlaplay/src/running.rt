@@ -1,6 +1,6 @@
 //! The run that the words of a command line ask for, over any files and writers.
 
-ghost use Rattle.std.specs.Prelude.{◌≡◌};
+ghost use Rattle.std.specs.Prelude.{◌≡◌, ◌≢◌, true};
 ghost use Rattle.hla_base.specs.Limits.{ledger_parts};
 ghost use Rattle.hla_transcript.specs.Watching.{stream_of};
 ghost use Rattle.clap.specs.Walk.{texts};
@@ -20,10 +20,11 @@ use std::thread::Threads;
 /// The status of a refused command line, and of a request for help.
 pub const MISUSED: u8 = 2;
 
-/// Writes the text of a refusal, or else that there is no memory for it, and answers the status.
+/// Writes the text of a refusal, or else that there is no memory for it, and answers the status, which is not 0.
 fn tell_refusal<E: Write>(alloc: Global, errors: &mut Watched<E>, error: Error) -> u8
-    ensures { EndsMisuse (stream_of E.contents errors.old)
+    ensures ends { EndsMisuse (stream_of E.contents errors.old)
         (stream_of E.contents errors.new) result }
+    ensures undone { result ≢ 0 }
 {
     match format!(in alloc; "{error}") {
         Ok(text) => {
@@ -36,7 +37,7 @@ fn tell_refusal<E: Write>(alloc: Global, errors: &mut Watched<E>, error: Error) 
 
 /// Does what the words of the command line ask for, the program's name in front, as `do_task` does it. Words of a plain form are
 /// always done. Where others ask for nothing that there is, or for help, the status is 2, with a text on `errors` and nothing on
-/// `out`.
+/// `out`. With status 0 what is on `out` was handed on.
 pub fn do_words<
     L: Ledger + Naming + Send + Sync,
     R: Threads + Wait + Sync,
@@ -54,9 +55,10 @@ pub fn do_words<
     requires parts { means.blank.parts ≡ L.parts }
     requires all { means.blank.parts ≡ ledger_parts }
     requires book { means.opened.seen.book ≡ L.book }
-    ensures { EndsRun (texts words.now) (O.bytes_of opener.now)
+    ensures ends { EndsRun (texts words.now) (O.bytes_of opener.now)
         (stream_of W.contents out.old) (stream_of W.contents out.new)
         (stream_of E.contents errors.old) (stream_of E.contents errors.new) result }
+    ensures handed_on { result ≡ 0 → out.new.is_handed_on ≡ true }
 {
     let alloc = means.alloc;
     match parse(alloc, words) {

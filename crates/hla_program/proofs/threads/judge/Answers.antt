@@ -7,7 +7,7 @@ use Rattle.hla_program.proofs.threads.judge.Goals as goal
 pub returns-in-Some-clause-ends : goal.returns-in-Some-clause-ends
 returns-in-Some-clause-ends g c =
     let P : Finding → Type 0 = λ finding. EndsTelling (finding_text finding c.args.seen) (finding_status finding) (stream_of g.W.Write.contents c.args.out.now) (stream_of g.W.Write.contents c.tell_finding.new.out) (stream_of g.E.Write.contents c.args.errors.now) (stream_of g.E.Write.contents c.tell_finding.new.errors) c.tell_finding.result in
-    Judged (subst P c.in-Some.ensures.found c.tell_finding.ensures)
+    Judged (subst P c.in-Some.ensures.found c.tell_finding.ensures.ends)
 
 pub returns-in-None-clause-ends : goal.returns-in-None-clause-ends
 returns-in-None-clause-ends g c = Unjudged refl c.tell_out_of_memory.ensures.line c.tell_out_of_memory.ensures.status
