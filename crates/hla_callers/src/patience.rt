@@ -11,8 +11,10 @@ use std::time::Duration;
 /// How often a caller finds the lock taken, while nobody's step is in vain, before it naps.
 const PATIENT_FINDS: u32 = 32;
 
-/// The naps that a caller takes at the most, in microseconds.
-const NAPS: [u64; 5] = [50, 100, 200, 400, 800];
+/// The naps that a caller takes at the most, in microseconds: few and long ones, so that sixteen callers who nap look so seldom that
+/// the one who has the lock makes some hundred steps before another takes it from it. The first is short, for the lock may be
+/// free at once.
+const NAPS: [u64; 5] = [50, 200, 800, 1_600, 3_200];
 
 /// How a caller waits for the lock. While callers take turns at each step, what lies behind the lock moves from core to core
 /// with it, and one of them sleeps and is woken for nearly each step: two make fewer steps than one alone. So a caller that
