@@ -1,7 +1,11 @@
 //! A federate's roles and times, as books keep them beside a transcript: when a request may be made, what may be sent, and when
 //! it is granted.
 
-use crate::texts::FOREVER;
+use crate::faults;
+use crate::texts::{FOREVER, cut, ticks};
+
+/// The greatest time, stamp and lookahead.
+const MAX_TIME: u64 = 1_000_000_000_000_000_000;
 
 #[derive(Clone, Copy)]
 pub enum Role {
@@ -151,6 +155,71 @@ impl Clock {
             && self.time <= asked
     }
 
+    /// The fault with which a service of time management is refused that these words of a script call, if it is.
+    pub fn refusal(self, verb: &str, words: &str) -> Option<u32> {
+        let (time, lookahead) = cut(words);
+        match verb {
+            "regulate" => self.regulation_refusal(ticks(time), ticks(lookahead)),
+            "constrain" => self.constraint_refusal(),
+            "unregulate" => fault_where(!self.is_regulating(), faults::NOT_REGULATING),
+            "unconstrain" => self.busy().or(fault_where(
+                !self.is_constrained(),
+                faults::NOT_CONSTRAINED,
+            )),
+            "modifyLookahead" => fault_where(!self.is_regulating(), faults::NOT_REGULATING)
+                .or(self.busy())
+                .or(fault_where(ticks(time) > MAX_TIME, faults::BAD_LOOKAHEAD)),
+            "asyncOn" => fault_where(self.is_asynchronous, faults::ASYNCHRONOUS),
+            "asyncOff" => fault_where(!self.is_asynchronous, faults::NOT_ASYNCHRONOUS),
+            _ => match Kind::of(verb) {
+                Some(_) => self.request_refusal(ticks(time)),
+                None => None,
+            },
+        }
+    }
+
+    /// That of a service which wants no advance.
+    fn busy(self) -> Option<u32> {
+        fault_where(self.is_advancing(), faults::ADVANCING)
+    }
+
+    /// That of a request to advance to a time.
+    fn request_refusal(self, asked: u64) -> Option<u32> {
+        self.busy()
+            .or(fault_where(self.is_entering(), faults::REGULATION_PENDING))
+            .or(fault_where(self.is_becoming_constrained(), faults::CONSTRAINT_PENDING))
+            .or(fault_where(asked > MAX_TIME, faults::BAD_TIME))
+            .or(fault_where(asked < self.time, faults::TIME_PASSED))
+    }
+
+    /// That of asking for regulation from a time on.
+    fn regulation_refusal(self, time: u64, lookahead: u64) -> Option<u32> {
+        let is_late = self.is_constrained() && time > self.time;
+        let is_bad = time > MAX_TIME || time < self.time || is_late;
+        self.busy()
+            .or(fault_where(self.is_regulating(), faults::REGULATING))
+            .or(fault_where(self.is_entering(), faults::REGULATION_PENDING))
+            .or(fault_where(is_bad, faults::BAD_TIME))
+            .or(fault_where(lookahead > MAX_TIME, faults::BAD_LOOKAHEAD))
+    }
+
+    /// That of asking to be constrained.
+    fn constraint_refusal(self) -> Option<u32> {
+        self.busy()
+            .or(fault_where(self.is_constrained(), faults::CONSTRAINED))
+            .or(fault_where(self.is_becoming_constrained(), faults::CONSTRAINT_PENDING))
+    }
+
+    /// Whether regulation was asked for, and the federate does not regulate yet.
+    fn is_entering(self) -> bool {
+        matches!(self.regulating, Role::Pending)
+    }
+
+    /// Whether it has asked to be constrained, and is not yet.
+    fn is_becoming_constrained(self) -> bool {
+        matches!(self.constrained, Role::Pending)
+    }
+
     /// The clock with a request to advance made.
     pub fn asking(self, kind: Kind, asked: u64) -> Clock {
         let mut clock = self;
@@ -280,4 +349,9 @@ impl Clock {
         clock.advance = None;
         clock
     }
+}
+
+/// A fault, where there is one.
+fn fault_where(is_refused: bool, fault: u32) -> Option<u32> {
+    if is_refused { Some(fault) } else { None }
 }

@@ -8,6 +8,7 @@
 
 mod clocks;
 mod copies;
+mod faults;
 mod members;
 mod object_books;
 mod objects;

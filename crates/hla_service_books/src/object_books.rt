@@ -2,6 +2,7 @@
 
 use crate::clocks::Role;
 use crate::copies::{Fate, Said};
+use crate::faults;
 use crate::objects::is_car;
 use crate::receivers::Attributes;
 use crate::service_books::Books;
@@ -67,12 +68,14 @@ impl Books {
         let (object, rest) = cut(words);
         let place = number(object);
         let Some(object) = self.objects.find(place) else {
-            return fault == 18;
+            return fault == faults::OBJECT_NOT_KNOWN;
         };
         match fault {
-            18 => !object.is_there || !self.objects.is_known(place, federate),
-            9 => !object.is_car,
-            19 => { object.owner != federate || Attributes::named_in(rest, false).has_privilege }
+            faults::OBJECT_NOT_KNOWN => !object.is_there || !self.objects.is_known(place, federate),
+            faults::ATTRIBUTE_NOT_DEFINED => !object.is_car,
+            faults::ATTRIBUTE_NOT_OWNED => {
+                object.owner != federate || Attributes::named_in(rest, false).has_privilege
+            }
             _ => false,
         }
     }

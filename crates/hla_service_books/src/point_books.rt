@@ -1,5 +1,6 @@
 //! What the books know of synchronization points.
 
+use crate::faults;
 use crate::members::BookedFederates;
 use crate::service_books::Books;
 use crate::texts::KnownTexts;
@@ -167,7 +168,7 @@ impl Books {
     /// Whether an achievement may be refused so.
     pub fn may_refuse_achievement(&mut self, federate: u32, label: &str, fault: u32) -> bool {
         self.tally.unannounced = self.tally.unannounced.saturating_add(1);
-        fault == 40 && !self.points.may_achieve(&self.texts, federate, label)
+        fault == faults::NOT_ANNOUNCED && !self.points.may_achieve(&self.texts, federate, label)
     }
 
     /// A federate is to be told something at a tick, behind what there is.

@@ -3,6 +3,7 @@
 //! allow it.
 
 use crate::copies::{BookedMessage, Copies, Said};
+use crate::faults;
 use crate::members::{BookedFederate, BookedFederates};
 use crate::objects::Objects;
 use crate::point_books::Points;
@@ -89,6 +90,55 @@ pub struct Books {
     pub tally: Tally,
 }
 
+/// Whether a line may be refused with a fault that is no joined federate's: it creates, destroys, joins or carries, or its federate
+/// is not joined.
+fn may_refuse_outside(word: &str, fault: u32) -> bool {
+    match word {
+        "create" => fault == faults::EXECUTION_EXISTS,
+        "destroy" => fault == faults::FEDERATES_JOINED,
+        "join" => matches!(fault, faults::NAME_IS_JOINED | faults::LIMIT_REACHED),
+        _ => fault == faults::NOT_A_MEMBER,
+    }
+}
+
+/// Whether a service may be refused with a fault, of those that the books do not judge further.
+fn may_refuse_unjudged(verb: &str, words: &str, fault: u32) -> bool {
+    match verb {
+        "unpublishObject" => fault == faults::OBJECT_CLASS_NOT_PUBLISHED,
+        "unsubscribeObject" => fault == faults::OBJECT_CLASS_NOT_SUBSCRIBED,
+        "unpublishInteraction" => fault == faults::INTERACTION_NOT_PUBLISHED,
+        "unsubscribeInteraction" => fault == faults::INTERACTION_NOT_SUBSCRIBED,
+        "register" => matches!(
+            fault,
+            faults::OBJECT_CLASS_NOT_PUBLISHED | faults::OBJECT_NAME_IS_USED
+        ),
+        "objectHandle" | "objectName" => fault == faults::OBJECT_NOT_KNOWN,
+        "resign" if words.ends_with("RELEASE_ATTRIBUTES") => fault == faults::BAD_RESIGN_ACTION,
+        "resign" => fault == faults::OWNS_OBJECTS,
+        _ => false,
+    }
+}
+
+/// Whether a service names a class, and perhaps attributes or parameters, which the FED file may not have.
+fn names_a_class(verb: &str) -> bool {
+    matches!(
+        verb,
+        "publishObject"
+            | "unpublishObject"
+            | "subscribeObject"
+            | "unsubscribeObject"
+            | "publishInteraction"
+            | "unpublishInteraction"
+            | "subscribeInteraction"
+            | "unsubscribeInteraction"
+            | "register"
+            | "update"
+            | "send"
+            | "attributeOrder"
+            | "interactionOrder"
+    )
+}
+
 impl Books {
     /// Books in which nothing stands yet but how often the laws were tried.
     fn new(alloc: Global, tally: Tally) -> Books {
@@ -161,23 +211,48 @@ impl Books {
         Ok(answers.next().is_none())
     }
 
-    /// A send is refused for its stamp only below the least one that may be sent, and a retraction only where the books refuse it;
-    /// a federate that has joined may always tick.
+    /// Whether a line may be refused with a fault: by what the books know of the federate and its clock, or where they do not tell,
+    /// with one of the faults that its service has.
     fn may_refuse(&mut self, name: &str, rest: &str, fault: u32) -> bool {
         let federate = self.number_of(name);
         let (verb, words) = cut(rest);
+        if fault == faults::NAME_NOT_FOUND {
+            return names_a_class(verb);
+        }
         if !self.members.member(federate).is_joined {
-            return true;
+            return may_refuse_outside(name, fault);
         }
         match verb {
-            "tick" => false,
-            "send" | "update" | "delete" => fault != 21 || self.may_refuse_stamp(federate, words),
+            "send" | "update" | "delete" => self.may_refuse_sending(federate, verb, words, fault),
             "attributeOrder" => self.may_refuse_attributes(federate, words, fault),
-            "interactionOrder" => fault == 15,
-            "retract" => fault == 33 && !self.may_retract(federate, EventName::of(words)),
-            "syncRegister" => { fault == 36 && !self.points.may_open(&self.texts, cut(words).0) },
+            "interactionOrder" => fault == faults::INTERACTION_NOT_PUBLISHED,
+            "retract" => {
+                fault == faults::BAD_RETRACTION && !self.may_retract(federate, EventName::of(words))
+            }
+            "syncRegister" => {
+                fault == faults::LIMIT_REACHED && !self.points.may_open(&self.texts, cut(words).0)
+            }
             "syncAchieve" => self.may_refuse_achievement(federate, cut(words).0, fault),
-            _ => true,
+            _ => {
+                let clock = self.members.member(federate).clock;
+                may_refuse_unjudged(verb, words, fault) || clock.refusal(verb, words) == Some(fault)
+            }
+        }
+    }
+
+    /// Whether a message may be refused with a fault: for its stamp only where it is below the least that may be sent.
+    fn may_refuse_sending(&mut self, federate: u32, verb: &str, words: &str, fault: u32) -> bool {
+        match (verb, fault) {
+            (_, faults::BAD_TIME) => self.may_refuse_stamp(federate, words),
+            ("send", _) => fault == faults::INTERACTION_NOT_PUBLISHED,
+            (_, faults::OBJECT_NOT_KNOWN) => true,
+            ("delete", _) => fault == faults::NOT_DELETABLE,
+            _ => matches!(
+                fault,
+                faults::ATTRIBUTE_NOT_DEFINED
+                    | faults::ATTRIBUTE_NOT_PUBLISHED
+                    | faults::ATTRIBUTE_NOT_OWNED
+            ),
         }
     }
 

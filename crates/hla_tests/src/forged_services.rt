@@ -2,6 +2,7 @@
 
 use crate::forged_orders::ORDERS;
 use crate::forged_points::POINTS;
+use crate::forged_refusals::REFUSALS;
 use hla_service_books::read_services;
 use std::alloc::Global;
 use std::process::Abort;
@@ -46,7 +47,7 @@ impl Scene {
 }
 
 /// All scenes.
-const SCENES: [&Scene; 8] = [
+const SCENES: [&Scene; 9] = [
     &RETRACTION,
     &EPOCH,
     &NEWEST_NULL,
@@ -55,6 +56,7 @@ const SCENES: [&Scene; 8] = [
     &OBJECT,
     &ORDERS,
     &POINTS,
+    &REFUSALS,
 ];
 
 #[test]

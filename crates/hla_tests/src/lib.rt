@@ -9,6 +9,8 @@ mod forged_orders;
 #[cfg(test)]
 mod forged_points;
 #[cfg(test)]
+mod forged_refusals;
+#[cfg(test)]
 mod forged_services;
 #[cfg(test)]
 mod forging;
