@@ -170,14 +170,18 @@ fn advance<L: Ledger + Naming, W: Publisher<L>>(
     }
 }
 
-/// Reads until all steps are there; the count of steps never falls from one read to the next.
+/// Reads until all steps are there, at most `READS` times; the counts of steps, callbacks and grants never fall from one read to the
+/// next.
 fn watch<L: Naming>(rt: &impl Abort, monitor: &mut Monitor<L>) {
-    let mut steps = 0;
+    let mut last = monitor.read();
     for _ in 0..READS {
-        let now = monitor.read().steps;
-        check(rt, now >= steps, "no count falls");
-        steps = now;
-        if steps == STEPS {
+        let now = monitor.read();
+        let has_fallen = now.steps < last.steps
+            || now.callbacks < last.callbacks
+            || now.grants < last.grants;
+        check(rt, !has_fallen, "no count falls");
+        last = now;
+        if now.steps == STEPS {
             return;
         }
         thread::yield_now();

@@ -6,7 +6,7 @@ ghost use Rattle.hla_base.specs.Limits.{ledger_parts};
 use crate::callers::{check, check_told, created, joined, joined_with, keep, regulate};
 use crate::scenes::Run;
 use crate::threads::both_granted;
-use hla_base::{ExecutionName, Fault};
+use hla_base::{ExecutionName, Fault, MAX_COURIERS};
 use hla_callbacks::Recorder;
 use hla_machine::{Carried, Outcome, Record, ResignAction};
 use hla_monitor::{Naming, Publisher};
@@ -116,6 +116,20 @@ fn create_until_refused<L: Ledger + Naming, W: Publisher<L>>(
     check(rt, is_refused, "no execution is created any more");
 }
 
+/// As many couriers as there may be are handed out, and no more. What they leave behind is added.
+fn hand_out_couriers<L: Ledger + Naming, W: Publisher<L>>(
+    rt: &impl Abort,
+    rti: &mut Rti<L, Recorder, W>,
+    lefts: &mut Vec<Left<L, Recorder>>,
+) {
+    for _ in 0..MAX_COURIERS {
+        let courier = rti.courier().expect(rt, "a courier");
+        keep(rt, lefts, courier.leave());
+    }
+    let is_refused = rti.courier().err() == Some(Fault::LimitReached);
+    check(rt, is_refused, "no courier is handed out any more");
+}
+
 /// Two federates and a courier, from the creation to the destruction: the courier carries the promise of one to the other, which is
 /// constrained, and both resign, each with its own ambassador. What they leave behind is added.
 fn run_to_end<L: Ledger + Naming, W: Publisher<L>>(
@@ -158,6 +172,7 @@ fn act<L: Ledger + Naming + Send + Sync, W: Publisher<L> + Send, R: Threads + Wa
         Run::FailingAmbassador => fail_once(rt, alloc, rti, lefts),
         Run::RefusedFedFile => refuse_cut_off(rt, rti),
         Run::SixtyFourRounds => create_until_refused(rt, rti),
+        Run::AllCouriers => hand_out_couriers(rt, rti, lefts),
         Run::OneMissing => join_once(rt, alloc, rti, lefts, false),
         Run::WholeRun => run_to_end(rt, alloc, rti, lefts),
         Run::BothGranted => both_granted(rt, alloc, rti, lefts),
@@ -180,6 +195,7 @@ fn is_recorded(records: &[Record], run: Run) -> bool {
                 )
         }
         Run::SixtyFourRounds => records.len() == 129,
+        Run::AllCouriers => records.is_empty(),
         Run::WholeRun => records.len() == 11,
         Run::BothGranted => records.len() > 16_000,
     }

@@ -3,9 +3,10 @@
 ghost use Rattle.std.specs.Prelude.{◌≡◌};
 ghost use Rattle.hla_base.specs.Limits.{ledger_parts};
 
+use crate::callers::check;
 use crate::monitor::{beside_two, eight_steps, three_steps};
 use crate::runs::close;
-use hla_base::LEDGER_PARTS;
+use hla_base::{Fault, LEDGER_PARTS, MAX_HISTORY_LIMIT};
 use hla_callbacks::Recorder;
 use hla_monitor::{Naming, Opened, Publisher};
 use hla_rti::{Rti, open_rti};
@@ -27,6 +28,8 @@ pub enum Run {
     RefusedFedFile,
     /// No execution is created any more.
     SixtyFourRounds,
+    /// As many couriers as there may be come back.
+    AllCouriers,
     /// Where a caller is missing nothing is closed, and it is once the caller has come back.
     OneMissing,
     /// All callers act and come back.
@@ -53,7 +56,7 @@ pub enum Scene {
 /// A scene with its name, and how many records its history may hold.
 type Row = (&'static str, Scene, usize);
 
-static ON_ONE_THREAD: [Row; 17] = [
+static ON_ONE_THREAD: [Row; 18] = [
     ("full at two", Scene::Closed(Run::FullAtTwo), 2),
     (
         "failing ambassador",
@@ -62,6 +65,7 @@ static ON_ONE_THREAD: [Row; 17] = [
     ),
     ("refused FED file", Scene::Closed(Run::RefusedFedFile), 100),
     ("64 rounds", Scene::Closed(Run::SixtyFourRounds), 200),
+    ("all couriers", Scene::Closed(Run::AllCouriers), 100),
     ("one missing", Scene::Closed(Run::OneMissing), 100),
     ("whole run", Scene::Closed(Run::WholeRun), 100),
     ("eight steps", Scene::EightSteps, 100),
@@ -119,10 +123,43 @@ fn play_at_a_brand<R: Threads + Wait + Abort + Sync>(rt: &R, alloc: Global, row:
 }
 
 #[test]
-fn scenes_on_one_thread(rt: HostRuntime) {
+fn each_scene_on_one_thread_ends_as_it_should(rt: HostRuntime) {
     for row in &ON_ONE_THREAD {
         play_at_a_brand(&rt, rt.alloc(), row);
     }
+}
+
+/// No infrastructure is opened for more records than a history may hold.
+fn is_too_long<L: Ledger + Naming, R: Wait>(
+    rt: &R,
+    alloc: Global,
+    blank: Blank,
+    opened: Opened,
+) -> bool
+    requires name { blank.name ≡ L.name }
+    requires parts { blank.parts ≡ L.parts }
+    requires all { blank.parts ≡ ledger_parts }
+    requires book { opened.seen.book ≡ L.book }
+{
+    let limit = MAX_HISTORY_LIMIT + 1;
+    match open_rti::<L, Recorder, &R>(alloc, rt, blank, opened, limit) {
+        Ok(rti) => {
+            drop(rti);
+            false
+        }
+        Err(fault) => fault == Fault::LimitReached,
+    }
+}
+
+#[test]
+fn no_history_is_longer_than_its_limit(rt: HostRuntime) {
+    let is_refused = is_too_long::<Brand, HostRuntime>(
+        &rt,
+        rt.alloc(),
+        Blank::new(LEDGER_PARTS),
+        Opened::new(),
+    );
+    check(&rt, is_refused, "a history that is too long");
 }
 
 #[test]
