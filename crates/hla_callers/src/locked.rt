@@ -224,9 +224,9 @@ impl<L: Ledger + Naming, B: FederateAmbassador, W: Publisher<L>, F: Execution> L
     }
 
     /// Resign Federation Execution (HLA 1.3, federation management), and records it. Where the federate resigned, its
-    /// ambassador comes out beside the answer, and in any case the history up to this record, unless the board has missed one.
-    /// `HistoryFull` where the history holds its limit, and `OutOfMemory` where a
-    /// growth was refused; then nothing has changed. Any other fault is the step's answer, and is recorded.
+    /// ambassador comes out beside the answer. With either answer comes the history up to this record, unless the records have
+    /// gone out or the board has missed one. `HistoryFull` where the history holds its limit, and `OutOfMemory` where a growth
+    /// was refused; then nothing has changed. Any other fault is the step's answer, and is recorded.
     pub(crate) fn resign(
         &mut self,
         actor: u32,
@@ -256,10 +256,12 @@ impl<L: Ledger + Naming, B: FederateAmbassador, W: Publisher<L>, F: Execution> L
         ensures share { CountsRecord result mine.old.amount mine.new.amount }
         ensures parts { mine.new.parts ≡ mine.old.parts }
     {
+        // The ambassador has heard what the history says, before the step,
         self.shared.kept();
         let (stepped, back) = self
             .shared
             .resign(actor, execution, federate, action, mine)?;
+        // and the history with its record replays.
         self.shared.kept();
         note_record(&mut self.board, &stepped.own);
         let until = if self.ended {

@@ -17,7 +17,7 @@ ghost use Rattle.hla_outcomes.specs.Running.{IsSeen, is_unwritten_run};
 ghost use Rattle.hla_in_order.specs.Turns.{AreDone, StopsDoing, HaveEnded, HaveLed, HaveLeft, IsSet, RequestLeads, LineLeads};
 
 use crate::acting::act;
-use hla_base::{ExecutionName, Fault, FederateNo, List, MAX_HISTORY, Plain};
+use hla_base::{ExecutionName, Fault, FederateNo, List, MAX_HISTORY};
 use hla_callbacks::FederateAmbassador;
 use hla_catalogue::Catalogue;
 use hla_commands::{Command, Line};
@@ -464,8 +464,8 @@ pub fn run_in_order<L: Ledger + Naming, B: FederateAmbassador, F: Execution, R: 
 
 /// Plays a script over a FED file as `run_in_order` does, with a history of at most `history_limit` records: a line that asks for
 /// one more is refused with `HistoryFull`. Where `is_watched`, a monitor is there from before the first step on, and reads the
-/// counts once all is done; then `Memory` also where there is none to be had, and `Monitor` where what it read are not the counts
-/// of a beginning of the history.
+/// counts once all is done; then `Memory` also where there is none to be had, and `Monitor` where the counts that it read are not
+/// those of a beginning of the history.
 #[tactic(auto, using(crate::proofs::StopLemmas::ends_in_order))]
 pub fn run_in_order_within<
     L: Ledger + Naming,
@@ -496,7 +496,7 @@ pub fn run_in_order_within<
     ensures done { IfOk result (λ r. IsRunInOrder fed.now script.now
         (W.contents out.old.inner) (W.contents out.new.inner) r.closed) }
 
-    // What a monitor read last, where one was to watch, are the counts of a beginning of the records.
+    // The counts that a monitor read last, where one was to watch, are those of a beginning of the records.
     ensures seen { IfOk result (λ r. IsSeen is_watched r.closed r.seen) }
 
     // Its counts are at fault only where one was to watch.

@@ -1,4 +1,4 @@
-//! Declaration and object management of a federate.
+//! Declaration and object management of a federate; and of time management Retract and the changes of orders.
 
 ghost use Rattle.hla_machine.specs.declared.service.Service.TheVariants as service;
 ghost use Rattle.hla_machine.specs.declared.step.Answer.TheVariants as answer;
@@ -15,9 +15,9 @@ use hla_monitor::{Naming, Publisher};
 use std::sync::Wait;
 use std::sync::ledger::Ledger;
 
-// Besides the faults that are told at each call: `FederationExecutionDoesNotExist` and `FederateNotExecutionMember` come before
-// all others where the execution or the federate is no longer there; `HistoryFull` and `OutOfMemory` come without a record,
-// and then nothing has changed. Of any other fault there is a record, and nothing else has changed.
+/// Besides the faults that are told at each call: `FederationExecutionDoesNotExist` and `FederateNotExecutionMember` come before
+/// all others where the execution or the federate is no longer there; `HistoryFull` and `OutOfMemory` come without a record,
+/// and then nothing has changed. Of any other fault there is a record, and nothing else has changed.
 impl<L: Ledger + Naming, B: FederateAmbassador, W: Publisher<L>, F: Execution> Federate<
     L,
     B,

@@ -13,9 +13,9 @@ use hla_monitor::{Naming, Publisher};
 use std::sync::Wait;
 use std::sync::ledger::Ledger;
 
-// Besides the faults that are told at each call: `FederationExecutionDoesNotExist` and `FederateNotExecutionMember` come before
-// all others where the execution or the federate is no longer there; `HistoryFull` and `OutOfMemory` come without a record,
-// and then nothing has changed. Of any other fault there is a record, and nothing else has changed.
+/// Besides the faults that are told at each call: `FederationExecutionDoesNotExist` and `FederateNotExecutionMember` come before
+/// all others where the execution or the federate is no longer there; `HistoryFull` and `OutOfMemory` come without a record,
+/// and then nothing has changed. Of any other fault there is a record, and nothing else has changed.
 impl<L: Ledger + Naming, B: FederateAmbassador, W: Publisher<L>, F: Execution> Federate<
     L,
     B,

@@ -20,6 +20,6 @@ pub enum RunFault {
     /// The infrastructure did not close: a caller is missing, its transcript is not its records of the history, or the history up to
     /// its resignation is not known to begin it.
     Close(CloseFault),
-    /// What a monitor read last are not the counts of a beginning of the history.
+    /// The counts that a monitor read last are not those of a beginning of the history.
     Monitor,
 }

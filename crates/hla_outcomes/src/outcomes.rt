@@ -133,7 +133,7 @@ fn is_dealt_with(outcomes: &[Option<Outcome>], place: usize, line: &Line<'_>) ->
     }
 }
 
-/// Whether each line has an outcome that does not carry or announce.
+/// Whether each line that does not carry or announce has an outcome.
 fn are_all_done(outcomes: &[Option<Outcome>], lines: &[Line<'_>]) -> bool
     ensures { IsTrue result ↔ AreAllDone lines.now outcomes.now }
 {
@@ -206,7 +206,7 @@ impl Outcomes {
         }
     }
 
-    /// Whether each line of the script has an outcome that does not carry or announce.
+    /// Whether each line of the script that does not carry or announce has an outcome.
     pub fn are_of_all(&self, lines: &[Line<'_>]) -> bool
         ensures { IsTrue result ↔ AreAllDone lines.now self.now }
     {

@@ -10,7 +10,6 @@ ghost use Rattle.hla_outcomes.specs.Running.{IsUnread, StopsText, told_text, is_
 use crate::fault::RunFault;
 use crate::joining::joins;
 use crate::outcomes::Outcomes;
-use hla_base::Fault;
 use hla_catalogue::Catalogue;
 use hla_commands::{Line, Script, parse};
 use hla_fed_file::read;

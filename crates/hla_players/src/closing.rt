@@ -71,8 +71,8 @@ pub fn close_told<
     }
 }
 
-/// Writes and closes as `close_told` does, beside a monitor that has read this last, if one has watched; and `Monitor` where that
-/// are not the counts of a beginning of the history.
+/// Writes and closes as `close_told` does, beside a monitor that has read these counts last, if one has watched; and `Monitor`
+/// where they are not those of a beginning of the history.
 pub fn close_seen<
     L: Ledger + Naming,
     B: FederateAmbassador,

@@ -9,7 +9,6 @@ use hla_execution::Execution;
 use hla_interface::{Closed, Rti};
 use hla_machine::Record;
 use hla_monitor::{Monitor, Naming, Publisher, Status};
-use hla_outcomes::RunFault;
 use std::sync::Wait;
 use std::sync::ledger::Ledger;
 

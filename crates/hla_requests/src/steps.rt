@@ -26,7 +26,7 @@ pub enum Request {
     Step(Step),
 }
 
-/// A copy of a name's bytes, of which only want of memory can deprive.
+/// A copy of a name's bytes. `Memory` where a growth was refused.
 fn name_copy(alloc: Global, name: &Word<'_>) -> Result<List<u8>, AskFault>
     ensures ok { IfOk result (λ copy. copy ≡ name.now) }
     ensures err { IfErr result (λ e. e ≡ AskFault.Memory) }

@@ -67,9 +67,8 @@ fn carry_from<L: Ledger + Naming, B: FederateAmbassador, P: Publisher<L>, F: Exe
     has_moved
 }
 
-/// Has each federate announce its promise, and then carries each wire once, by rising numbers. A refusal is in the records. Answers
-/// whether anything was announced or carried.
-fn exchange<L: Ledger + Naming, B: FederateAmbassador, P: Publisher<L>, F: Execution>(
+/// Has each federate announce its promise, by rising numbers. A refusal is in the records. Answers whether anything was announced.
+fn announce_all<L: Ledger + Naming, B: FederateAmbassador, P: Publisher<L>, F: Execution>(
     rt: &impl Wait,
     courier: &mut Courier<L, B, P, F>,
     execution: ExecutionName,
@@ -80,6 +79,18 @@ fn exchange<L: Ledger + Naming, B: FederateAmbassador, P: Publisher<L>, F: Execu
         let announced = courier.announce(rt, execution, federate);
         has_moved = has_moved || announced.is_ok_and(|promise| promise.is_some());
     }
+    has_moved
+}
+
+/// Has each federate announce its promise, and then carries each wire once, by rising numbers. A refusal is in the records. Answers
+/// whether anything was announced or carried.
+fn exchange<L: Ledger + Naming, B: FederateAmbassador, P: Publisher<L>, F: Execution>(
+    rt: &impl Wait,
+    courier: &mut Courier<L, B, P, F>,
+    execution: ExecutionName,
+    joined: FederateNo,
+) -> bool {
+    let mut has_moved = announce_all(rt, courier, execution, joined);
     for from in 1..=joined {
         let has_carried = carry_from(rt, courier, execution, from, joined);
         has_moved = has_moved || has_carried;
@@ -87,8 +98,8 @@ fn exchange<L: Ledger + Naming, B: FederateAmbassador, P: Publisher<L>, F: Execu
     has_moved
 }
 
-/// Has the federates exchange what they have for each other, so often, or until there is nothing more: then one exchange is
-/// as good as many.
+/// Has the federates exchange what they have for each other, that many times, or until there is nothing more: then one exchange
+/// is as good as many.
 fn exchange_often<L: Ledger + Naming, B: FederateAmbassador, P: Publisher<L>, F: Execution>(
     rt: &impl Wait,
     courier: &mut Courier<L, B, P, F>,

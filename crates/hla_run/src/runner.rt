@@ -238,8 +238,8 @@ fn tell_on_threads<
 /// The FED file is tested before the script, then whether there are ambassadors enough, and all before anything is done: `Fed`
 /// or else `Script` with the first fault, or else `Ambassadors` where there are fewer than `joins` of the lines, and nothing
 /// written. `Memory` where a growth was refused outside the steps, or the monitor before any step; `Write` only
-/// where the writer has failed; `Close` where the infrastructure does not close; and `Monitor` where what the monitor read
-/// are not the counts of a beginning of the history.
+/// where the writer has failed; `Close` where the infrastructure does not close; and `Monitor` where the counts that the monitor
+/// read are not those of a beginning of the history.
 #[tactic(auto, using(crate::proofs::EndLemmas::ends))]
 pub fn run_scripts<
     L: Ledger + Naming + Send + Sync,
@@ -281,7 +281,7 @@ pub fn run_scripts<
     ensures recorded { IfOk result (λ r. IsRunRecorded r.closed fed.now script.now
         (W.contents out.old.inner) (W.contents out.new.inner)) }
 
-    // What a monitor read last, where one was to watch, are the counts of a beginning of the records.
+    // The counts that a monitor read last, where one was to watch, are those of a beginning of the records.
     ensures seen { IfOk result (λ r. IsSeen is_watched r.closed r.seen) }
 
     // Its counts are at fault only where one was to watch.

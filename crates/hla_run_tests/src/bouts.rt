@@ -27,7 +27,7 @@ fn add(script: &mut String, federate: usize, words: &str) -> Result<(), AllocErr
     write!(script, "F{federate} {words}\n")
 }
 
-/// Adds a line of a federate, so often.
+/// Adds a line of a federate, that many times.
 fn add_often(
     script: &mut String,
     federate: usize,
@@ -224,7 +224,7 @@ fn before<R: Threads + Wait + Abort + Sync>(
 }
 
 /// A script is answered on threads that rest as on threads that give their turns away, in each of some runs.
-fn is_answered_alike<R: Threads + Wait + Abort + Sync>(
+fn check_answered_alike<R: Threads + Wait + Abort + Sync>(
     rt: &R,
     alloc: Global,
     script: &String,
@@ -239,7 +239,7 @@ fn is_answered_alike<R: Threads + Wait + Abort + Sync>(
 }
 
 /// So many lines of a script are given nothing and so many a grant, in each of some runs, and none is refused.
-fn ends_so<R: Threads + Wait + Abort + Sync>(
+fn check_ends<R: Threads + Wait + Abort + Sync>(
     rt: &R,
     alloc: Global,
     script: &String,
@@ -257,7 +257,7 @@ fn ends_so<R: Threads + Wait + Abort + Sync>(
 }
 
 /// What was granted on threads that give their turns away is granted on threads that rest.
-fn keeps_grants<R: Threads + Wait + Abort + Sync>(
+fn check_keeps_grants<R: Threads + Wait + Abort + Sync>(
     rt: &R,
     alloc: Global,
     script: &String,
@@ -274,7 +274,7 @@ fn the_first_waits_for_the_last(rt: HostRuntime) -> Result<(), Fail> {
     for federates in [2, 3, 8, 16] {
         for lines in [0, 1, 160] {
             let script = told_and_waited(rt.alloc(), federates, federates, 1, lines)?;
-            is_answered_alike(&rt, rt.alloc(), &script, federates)?;
+            check_answered_alike(&rt, rt.alloc(), &script, federates)?;
         }
     }
     Ok(())
@@ -285,7 +285,7 @@ fn the_last_waits_for_the_first(rt: HostRuntime) -> Result<(), Fail> {
     for federates in [2, 3, 8, 16] {
         for lines in [0, 1, 160] {
             let script = told_and_waited(rt.alloc(), federates, 1, federates, lines)?;
-            is_answered_alike(&rt, rt.alloc(), &script, federates)?;
+            check_answered_alike(&rt, rt.alloc(), &script, federates)?;
         }
     }
     Ok(())
@@ -295,28 +295,28 @@ fn the_last_waits_for_the_first(rt: HostRuntime) -> Result<(), Fail> {
 fn bounds_creep_to_the_end(rt: HostRuntime) -> Result<(), Fail> {
     for (federates, time) in [(2, 900), (2, 1400), (3, 1500)] {
         let script = creep(rt.alloc(), federates, time)?;
-        ends_so(&rt, rt.alloc(), &script, federates, 0, federates)?;
+        check_ends(&rt, rt.alloc(), &script, federates, 0, federates)?;
     }
     let script = creep(rt.alloc(), 2, 900)?;
-    keeps_grants(&rt, rt.alloc(), &script, 2)
+    check_keeps_grants(&rt, rt.alloc(), &script, 2)
 }
 
 #[test]
 fn a_promise_comes_behind_many_messages(rt: HostRuntime) -> Result<(), Fail> {
     let script = behind_messages(rt.alloc(), 1500)?;
-    ends_so(&rt, rt.alloc(), &script, 2, 1, 2)
+    check_ends(&rt, rt.alloc(), &script, 2, 1, 2)
 }
 
 #[test]
 fn one_waits_in_vain_and_then_sends(rt: HostRuntime) -> Result<(), Fail> {
     let script = vain_then_sent(rt.alloc())?;
-    ends_so(&rt, rt.alloc(), &script, 2, 2, 0)
+    check_ends(&rt, rt.alloc(), &script, 2, 2, 0)
 }
 
 #[test]
 fn all_wait_in_vain_alike(rt: HostRuntime) -> Result<(), Fail> {
     let script = all_in_vain(rt.alloc(), 4)?;
-    ends_so(&rt, rt.alloc(), &script, 4, 4, 0)
+    check_ends(&rt, rt.alloc(), &script, 4, 4, 0)
 }
 
 /// Holds a line for some time.

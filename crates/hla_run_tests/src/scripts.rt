@@ -127,7 +127,7 @@ pub fn in_lockstep<L: Ledger + Naming + Send + Sync, R: Threads + Wait + Abort +
 }
 
 #[test]
-fn in_lockstep_at_a_brand(rt: HostRuntime) -> Result<(), Fail> {
+fn lockstep_on_threads_writes_its_text(rt: HostRuntime) -> Result<(), Fail> {
     in_lockstep::<Brand, HostRuntime>(&rt, rt.alloc(), Blank::new(LEDGER_PARTS), Opened::new())
 }
 
@@ -151,7 +151,7 @@ fn in_order<L: Ledger + Naming, R: Wait + Abort>(
 }
 
 #[test]
-fn in_order_at_a_brand(rt: HostRuntime) -> Result<(), Fail> {
+fn a_script_in_order_writes_its_text(rt: HostRuntime) -> Result<(), Fail> {
     in_order::<Brand, HostRuntime>(&rt, rt.alloc(), Blank::new(LEDGER_PARTS), Opened::new())
 }
 
@@ -182,7 +182,7 @@ fn refused<L: Ledger + Naming + Send + Sync, R: Threads + Wait + Abort + Sync>(
 }
 
 #[test]
-fn a_fed_file_at_fault(rt: HostRuntime) -> Result<(), Fail> {
+fn a_fed_file_at_fault_writes_nothing(rt: HostRuntime) -> Result<(), Fail> {
     let fault = refused::<Brand, HostRuntime>(
         &rt,
         rt.alloc(),
@@ -196,7 +196,7 @@ fn a_fed_file_at_fault(rt: HostRuntime) -> Result<(), Fail> {
 }
 
 #[test]
-fn a_script_at_fault(rt: HostRuntime) -> Result<(), Fail> {
+fn a_script_at_fault_writes_nothing(rt: HostRuntime) -> Result<(), Fail> {
     let fault = refused::<Brand, HostRuntime>(
         &rt,
         rt.alloc(),

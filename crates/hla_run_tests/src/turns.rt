@@ -80,7 +80,7 @@ fn turns_after(ticks: u32) -> u32 {
     }
 }
 
-/// Gives the thread's turn away, so often.
+/// Gives the thread's turn away, that many times.
 fn stand_back(turns: u32) {
     for _ in 0..turns {
         thread::yield_now();

@@ -13,12 +13,12 @@ ghost use Rattle.hla_script.specs.Playing.{IsPlayedAs, IsPlayedFrom, IsPlayedWho
 
 use crate::execution::Execution;
 use crate::history::play_line;
-use hla_base::{Fault, List, MAX_HISTORY, SharedList};
+use hla_base::{List, MAX_HISTORY, SharedList};
 use hla_catalogue::Catalogue;
 use hla_commands::{Script, ScriptFault, parse};
 use hla_fed_file::{FedFault, read};
 use hla_machine::Record;
-use hla_transcript::{Text, Watched, WriteFailed, write_whole};
+use hla_transcript::{Text, Watched, write_whole};
 use std::alloc::Global;
 use std::io::Write;
 

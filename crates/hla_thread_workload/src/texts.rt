@@ -27,7 +27,7 @@ impl Text {
         writeln!(self.text, "Federate-{federate} {words}").map_err(|_| Fault::OutOfMemory)
     }
 
-    /// A federate ticks so often.
+    /// A federate ticks that many times.
     fn tick(&mut self, federate: u32, times: u32) -> Result<(), Fault> {
         for _ in 0..times {
             self.call(federate, "tick")?;

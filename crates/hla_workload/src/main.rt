@@ -1,5 +1,5 @@
-//! Workloads for measuring: what users of the library wait for, through its public calls. Each prints a digest of all that the calls
-//! answered, which is the same at each run.
+//! Workloads for measuring: what users of the library wait for, through its public calls. Each prints a digest of the numbers, names and
+//! values that the calls answered, which is the same at each run.
 //!
 //!     hla_workload NAME FEDERATES AMOUNT ROUNDS SEED
 //!

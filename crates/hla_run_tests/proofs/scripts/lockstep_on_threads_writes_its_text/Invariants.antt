@@ -1,4 +1,4 @@
-use Rattle.hla_run_tests.proofs.scripts.in_lockstep_at_a_brand.Given as goal
+use Rattle.hla_run_tests.proofs.scripts.lockstep_on_threads_writes_its_text.Given as goal
 
 -- the ledger that was just made
 abbrev pub ghosts-in_lockstep-L-Ledger : goal.ghosts-in_lockstep-L-Ledger

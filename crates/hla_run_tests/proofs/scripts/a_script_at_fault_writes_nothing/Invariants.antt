@@ -1,4 +1,4 @@
-use Rattle.hla_run_tests.proofs.scripts.a_script_at_fault.Given as goal
+use Rattle.hla_run_tests.proofs.scripts.a_script_at_fault_writes_nothing.Given as goal
 
 -- the ledger that was just made
 abbrev pub ghosts-refused-L-Ledger : goal.ghosts-refused-L-Ledger

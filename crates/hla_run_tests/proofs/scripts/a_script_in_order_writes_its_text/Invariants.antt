@@ -1,4 +1,4 @@
-use Rattle.hla_run_tests.proofs.scripts.in_order_at_a_brand.Given as goal
+use Rattle.hla_run_tests.proofs.scripts.a_script_in_order_writes_its_text.Given as goal
 
 -- the ledger that was just made
 abbrev pub ghosts-in_order-L-Ledger : goal.ghosts-in_order-L-Ledger
