@@ -1,6 +1,6 @@
--- The history up to a resignation, and what the ambassador has heard that comes out with it
-use Rattle.std.proofs.Common.{◌≡◌, ◌++◌, ◌∷◌, ℕ, Bool, true, false, cond, List, [], Option, Some, None, IfSome, refl, sym, ap, ◌∙◌, subst, ◌⊎◌, inl, inr}
-use Rattle.std.specs.Prelude.{Result, Ok, Err, IfOk, IfErr, OnOk}
+-- The history up to a caller's last act, and what the ambassador has heard that comes out with a resignation
+use Rattle.std.proofs.Common.{◌≡◌, ◌++◌, ◌∷◌, ℕ, ◌+◌, ◌≤◌, Bool, true, false, cond, List, [], Option, Some, None, IfSome, refl, sym, ap, ◌∙◌, subst, ◌⊎◌, inl, inr, below_more}
+use Rattle.std.specs.Prelude.{Result, Ok, Err, IfErr, OnOk, slice_get}
 use Rattle.std.specs.Str.{bytes_eq}
 use mathlib.Core.List.{IsPrefix}
 use Rattle.hla_callbacks.specs.declared.callback.Callback.{Callback}
@@ -16,11 +16,10 @@ use Rattle.hla_history.specs.Heard.{heard_by}
 use Rattle.hla_history.specs.Hosts.{Host, Hosts, Held, IsLockKept, with_record}
 use Rattle.hla_history.specs.Writing.{step_record}
 use Rattle.hla_history.proofs.Records.Kept.{heard_by-more}
-use Rattle.hla_monitor.specs.Counts.{is_resigning}
 use Rattle.hla_callers.specs.declared.closing.CloseFault.{CloseFault}
 use Rattle.hla_callers.specs.declared.closing.CloseFault.TheVariants as close_fault
-use Rattle.hla_callers.specs.Callers.{Caller, Leaver}
-use Rattle.hla_callers.specs.Close.{IsKnownUntil}
+use Rattle.hla_callers.specs.Callers.{Caller, Leaver, IsKnownBehind}
+use Rattle.hla_callers.specs.Close.{IsKnownUntil, IsUnknownAt, KnownBefore}
 
 prefix_trans : {A : Type 0} (xs ys zs : List A) → IsPrefix xs ys → IsPrefix ys zs → IsPrefix xs zs
 prefix_trans [] ys zs p q = (zs, refl)
@@ -30,9 +29,9 @@ prefix_trans (x ∷ xs) (y ∷ ys) (z ∷ zs) p q =
     let rest = prefix_trans xs ys zs (p.0, cc (p.1)) (q.0, cc (q.1)) in (rest.0, cc (p.1, q.1, rest.1))
 
 -- what begins a beginning of a history begins the history
-pub known_longer : (xs ys : List Record) (l : Leaver) → IsKnownUntil xs l → IsPrefix xs ys → IsKnownUntil ys l
-known_longer xs ys l known p before r last resigned =
-    let (h, told, begins) = known before r last resigned in (h, told, prefix_trans h xs ys begins p)
+pub known_longer : (xs ys : List Record) (c : Caller) → IsKnownUntil xs c → IsPrefix xs ys → IsKnownUntil ys c
+known_longer xs ys c known p before r last =
+    let (h, told, begins) = known before r last in (h, told, prefix_trans h xs ys begins p)
 
 same_cond : {X : Type 0} (b : Bool) (x : X) → cond b x x ≡ x
 same_cond true x = refl
@@ -72,21 +71,29 @@ empty_or_last (x ∷ xs) = elim (empty_or_last xs) [
   | inr some ↦ (let (before, y, is) = some in inr (x ∷ before, y, ap (λ (ys : List _). x ∷ ys) is))
 ]
 
--- of one whose last act was to resign the history up to there is known, if it is known
-pub resigned_known : (caller : Caller) (heard : Option (List Callback)) (until : Option (List Record)) (l : Leaver) (shown : List Record)
-    → record { caller = caller; heard = heard; until = until } ≡ l
-    → ((before : List Record) (r : Record) → caller.transcript ≡ before ++ r ∷ [] → true ≡ is_resigning r.act r.outcome) → (caller.transcript ≡ [] → true ≡ false)
-    → IsKnownUntil shown l → (h : List Record) × (until ≡ Some h) × IsPrefix h shown
-resigned_known caller heard until l shown is last none known =
-    let known : IsKnownUntil shown (record { caller = caller; heard = heard; until = until }) = subst (IsKnownUntil shown) (sym is) known in
-    elim (empty_or_last caller.transcript) [
-      | inl empty ↦ absurd (cc (none empty))
-      | inr some ↦ (let (before, r, ends) = some in known before r ends (sym (last before r ends)))
-    ]
+no_last : {A : Type 0} (before : List A) (x : A) → [] ≡ before ++ x ∷ [] → ⊥
+no_last [] x is = cc
+no_last (y ∷ before) x is = cc
+
+-- of one who has done nothing there is nothing to know
+pub nothing_known : (shown : List Record) (c : Caller) → c.transcript ≡ [] → IsKnownUntil shown c
+nothing_known shown c none before r is = absurd (no_last before r (sym none ∙ is))
+
+-- of one who has done something the history up to there is known, if it is known
+pub last_known : (shown : List Record) (c : Caller) → (c.transcript ≡ [] → ⊥) → IsKnownUntil shown c → (h : List Record) × (c.until ≡ Some h) × IsPrefix h shown
+last_known shown c some known = elim (empty_or_last c.transcript) [
+  | inl none ↦ absurd (some none)
+  | inr last ↦ (let (before, r, ends) = last in known before r ends)
+]
 
 pub when_ok : {T E : Type 0} {P : Type 0} (result : Result T E) → P → OnOk result P
 when_ok (Ok x) p = p
 when_ok (Err e) p = tt
+
+-- what holds of an error holds of one that tells of a transcript
+pub when_differs : {T E : Type 0} {P : Type 0} (fault_of : E → CloseFault) (result : Result T E) → P → IfErr result (λ e. (k : ℕ) → fault_of e ≡ close_fault.Transcript k → P)
+when_differs fault_of (Ok x) p = tt
+when_differs fault_of (Err e) p = λ k is. p
 
 -- where a transcript differs, it is the one at that place
 pub differs_at : {T E : Type 0} (fault_of : E → CloseFault) (P : ℕ → Type 0) (result : Result T E)
@@ -94,17 +101,25 @@ pub differs_at : {T E : Type 0} (fault_of : E → CloseFault) (P : ℕ → Type 
 differs_at fault_of P (Ok x) differs = tt
 differs_at fault_of P (Err e) differs = λ k is. (let (other, was, p) = differs in (let same : other ≡ k = cc (was, is) in subst P same p))
 
--- the history that is told is one that replays, where that is so of the history there
-until_replays : (until : Option (List Record)) (history : List Record) → IfSome until (λ h. h ≡ history) → Replays history → IfSome until Replays
-until_replays None history is replays = tt
-until_replays (Some h) history is replays = subst Replays (sym is) replays
-
-pub resigned_replays : {X E : Type 0} (result : Result (X × Option (List Record)) E) (until : Option (List Record)) (history : List Record)
-    → IfOk result (λ p. p.1 ≡ until) → IfSome until (λ h. h ≡ history) → Replays history → IfOk result (λ p. IfSome p.1 Replays)
-resigned_replays (Ok p) until history same is replays = subst (λ (o : Option (List Record)). IfSome o Replays) (sym same) (until_replays until history is replays)
-resigned_replays (Err e) until history same is replays = tt
+-- the history that is known behind an act is one that replays
+pub known_replays : (before until : Option (List Record)) (own : Record) → IfSome until (IsKnownBehind before own) → IfSome until Replays
+known_replays before None own known = tt
+known_replays before (Some h) own known = known.0
 
 -- and what is so of each history that replays is so of it
 pub told_of : (until : Option (List Record)) (P : List Record → Type 0) → ((h : List Record) → Replays h → P h) → IfSome until Replays → IfSome until P
 told_of None P holds replays = tt
 told_of (Some h) P holds replays = holds h replays
+
+-- ---- of which callers it is known
+pub unknown_at : (shown : List Record) (lefts : List Leaver) (own : Caller) (k : ℕ) (l : Leaver) → slice_get lefts k ≡ Some l → (IsKnownUntil shown l.caller → ⊥) → IsUnknownAt shown lefts own k
+unknown_at shown lefts own k l at unknown = inl (l, at, unknown)
+
+pub known_next : (history : List Record) (lefts : List Leaver) (k : ℕ) (l : Leaver) → slice_get lefts k ≡ Some l → KnownBefore history lefts k → IsKnownUntil history l.caller → KnownBefore history lefts (k + 1)
+known_next history lefts k l at before known j m low found =
+    below_more (λ (i : ℕ). (n : Leaver) → slice_get lefts i ≡ Some n → IsKnownUntil history n.caller) k (λ i small n there. before i n small there)
+    (λ n there. let same : Some l ≡ Some n = sym at ∙ there in let here : l ≡ n = cc same in subst (λ (x : Leaver). IsKnownUntil history x.caller) here known) j low m found
+
+-- a place that is refused
+pub untold_at : (place bound : ℕ) (P : ℕ → Type 0) → (place ≤ bound) × P place → (k : ℕ) → close_fault.Untold place ≡ close_fault.Untold k → (k ≤ bound) × P k
+untold_at place bound P found k is = let same : place ≡ k = cc is in subst (λ (n : ℕ). (n ≤ bound) × P n) same found

@@ -1,5 +1,6 @@
 -- What is seen of the callers of one run-time infrastructure
-use Rattle.std.specs.Prelude.{◌≡◌, ℕ, ◌+◌, ◌⊎◌, Option, Some, IfSome, List, [], ◌∷◌, ◌++◌, Result, Ok, Err}
+use Rattle.std.specs.Prelude.{◌≡◌, ℕ, ◌+◌, ◌⊎◌, Option, None, Some, IfSome, List, [], ◌∷◌, ◌++◌, Result, Ok, Err}
+use mathlib.Core.List.{IsPrefix}
 use Rattle.hla_base.specs.declared.fault.Fault.{Fault}
 use Rattle.hla_base.specs.declared.fault.Fault.TheVariants as fault
 use Rattle.hla_callbacks.specs.declared.callback.Callback.{Callback}
@@ -13,26 +14,50 @@ use Rattle.hla_machine.specs.declared.step.Outcome.{Outcome}
 use Rattle.hla_machine.specs.declared.step.Outcome.TheVariants as outcome
 use Rattle.hla_machine.specs.declared.step.Choice.{Choice}
 use Rattle.hla_machine.specs.declared.step.Record.{Record}
+use Rattle.hla_history.specs.Closing.{Replays}
 use Rattle.hla_history.specs.Heard.{heard_by}
 
--- a caller's number, the records of its own acts in order, and its share of the ledger
+-- a caller's number, the records of its own acts in order, its share of the ledger, and the history up to its last act, where that
+-- is known
 pub record Caller : Type 0 where
   pub number : ℕ
   pub transcript : List Record
   pub share : ℕ
+  pub until : Option (List Record)
 
 -- a caller that has done nothing yet
 abbrev pub new_caller : ℕ → Caller
-new_caller number = record { number = number; transcript = []; share = 0 }
+new_caller number = record { number = number; transcript = []; share = 0; until = None }
 
--- a caller with one more record of its own
-abbrev pub with_own : Caller → Record → Caller
-with_own c r = record { number = c.number; transcript = c.transcript ++ r ∷ []; share = c.share + 1 }
+-- a caller with one more record of its own, and what is known of the history behind it
+abbrev pub with_own : Caller → Record → Option (List Record) → Caller
+with_own c r until = record { number = c.number; transcript = c.transcript ++ r ∷ []; share = c.share + 1; until = until }
 
--- the caller's act ended so: its transcript has grown by the record, and its share by one
+-- ---- what an act leads to
+-- a history ends with a record
+abbrev pub EndsWith : Record → List Record → Type 0
+EndsWith r history = (before : List Record) × (history ≡ before ++ r ∷ [])
+
+-- some history that replays ends with the record: an act may come to this, by all the definitions
+abbrev pub HasHappened : Record → Type 0
+HasHappened r = (history : List Record) × Replays history × EndsWith r history
+
+-- the history that is known behind an act: it replays, it ends with the act's record, and it begins with what was known before
+abbrev pub IsKnownBehind : Option (List Record) → Record → List Record → Type 0
+IsKnownBehind before r history = Replays history × EndsWith r history × IfSome before (λ h. IsPrefix h history)
+
+-- the record of a caller's act
+abbrev pub act_record : Caller → List ℕ → Act → Outcome → Choice → Record
+act_record c name a out chosen = record { actor = c.number; execution = name; act = a; outcome = out; choice = chosen }
+
+-- the caller's act ended so: its transcript has grown by the record, and its share by one; the record is one that a history that
+-- replays ends with, and where the history up to it is known, that one does
 abbrev pub HasActed : Caller → List ℕ → Act → Outcome → Caller → Type 0
 HasActed old name a out new =
-    (chosen : Choice) × (new ≡ with_own old (record { actor = old.number; execution = name; act = a; outcome = out; choice = chosen }))
+    (chosen : Choice)
+    × (new ≡ with_own old (act_record old name a out chosen) new.until)
+    × HasHappened (act_record old name a out chosen)
+    × IfSome new.until (IsKnownBehind old.until (act_record old name a out chosen))
 
 -- no act was recorded, as the history is full or memory ran out, and the caller is as before
 abbrev pub HasNotActed : Caller → Fault → Caller → Type 0
@@ -76,12 +101,10 @@ IsServed old service result new =
     × (new.federate ≡ old.federate)
     × HasAnswered old.caller old.execution (act.Step (Call old.federate service)) result new.caller
 
--- what a caller leaves behind: itself, what the ambassador that goes out with it has heard, if one does, and of one that resigned
--- the history up to its resignation
+-- what a caller leaves behind: itself, and what the ambassador that goes out with it has heard, if one does
 pub record Leaver : Type 0 where
   pub caller : Caller
   pub heard : Option (List Callback)
-  pub until : Option (List Record)
 
 -- a history ends with the last record of a transcript
 abbrev pub EndsAlike : List Record → List Record → Type 0
@@ -96,7 +119,7 @@ IsHeardUntil execution f ks transcript history = (ks ≡ heard_by execution f hi
 -- so has that which a federate leaves behind that resigned, where the history up to there is known
 abbrev pub HeardAll : List ℕ → ℕ → Leaver → Type 0
 HeardAll execution f l =
-    IfSome l.until (λ h. (ks : List Callback) × (l.heard ≡ Some ks) × IsHeardUntil execution f ks l.caller.transcript h)
+    IfSome l.caller.until (λ h. (ks : List Callback) × (l.heard ≡ Some ks) × IsHeardUntil execution f ks l.caller.transcript h)
 
 -- what is seen of the infrastructure: how many callers it has handed out, how many of them are couriers, and itself as a caller
 pub record Office : Type 0 where

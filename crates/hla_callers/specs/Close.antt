@@ -4,7 +4,6 @@ use mathlib.Core.List.{IsPrefix}
 use Rattle.std.specs.List.{list_any}
 use Rattle.hla_machine.specs.declared.step.Record.{Record}
 use Rattle.hla_history.specs.Closing.{records_by}
-use Rattle.hla_monitor.specs.Counts.{is_resigning}
 use Rattle.hla_callers.specs.Callers.{Caller, Leaver}
 
 -- each caller that was handed out is in the list
@@ -50,20 +49,21 @@ transcripts_length (l ∷ ls) = length l.caller.transcript + transcripts_length 
 abbrev pub AreOfCallers : ℕ → List Record → Type 0
 AreOfCallers handed records = All (λ (r : Record). r.actor ≤ handed) records
 
--- where a caller's last act was to resign, the history up to there is known, and begins this one
-abbrev pub IsKnownUntil : List Record → Leaver → Type 0
-IsKnownUntil history l =
-    (before : List Record) (r : Record) → l.caller.transcript ≡ before ++ r ∷ [] → is_resigning r.act r.outcome ≡ true
-    → (h : List Record) × (l.until ≡ Some h) × IsPrefix h history
+-- where a caller has done anything, the history up to its last act is known, and begins this one
+abbrev pub IsKnownUntil : List Record → Caller → Type 0
+IsKnownUntil history c =
+    (before : List Record) (r : Record) → c.transcript ≡ before ++ r ∷ [] → (h : List Record) × (c.until ≡ Some h) × IsPrefix h history
 
 -- of the callers before this place
 abbrev pub KnownBefore : List Record → List Leaver → ℕ → Type 0
-KnownBefore history lefts k = (j : ℕ) (l : Leaver) → j < k → slice_get lefts j ≡ Some l → IsKnownUntil history l
+KnownBefore history lefts k = (j : ℕ) (l : Leaver) → j < k → slice_get lefts j ≡ Some l → IsKnownUntil history l.caller
 
--- of all
-abbrev pub AllKnown : List Record → List Leaver → Type 0
-AllKnown history lefts = KnownBefore history lefts (length lefts)
+-- of all, and of the infrastructure itself
+abbrev pub AllKnown : List Record → List Leaver → Caller → Type 0
+AllKnown history lefts own = KnownBefore history lefts (length lefts) × IsKnownUntil history own
 
--- of the caller at this place it is not so
-abbrev pub IsUnknownAt : List Record → List Leaver → ℕ → Type 0
-IsUnknownAt history lefts k = (l : Leaver) × (slice_get lefts k ≡ Some l) × (IsKnownUntil history l → ⊥)
+-- of the caller at this place it is not so, or, at the list's length, of the infrastructure itself
+abbrev pub IsUnknownAt : List Record → List Leaver → Caller → ℕ → Type 0
+IsUnknownAt history lefts own k =
+    ((l : Leaver) × (slice_get lefts k ≡ Some l) × (IsKnownUntil history l.caller → ⊥))
+    ⊎ ((k ≡ length lefts) × (IsKnownUntil history own → ⊥))

@@ -67,8 +67,9 @@ pub enum CloseFault {
     /// The transcript of the caller at this place of the list is not its records of the history; at the list's length that
     /// of the infrastructure itself.
     Transcript(usize),
-    /// The history up to the resignation of the caller at this place of the list is not known to begin the history.
-    Resignation(usize),
+    /// The history up to the last act of the caller at this place of the list is not known to begin the history; at the list's
+    /// length that of the infrastructure itself.
+    Untold(usize),
 }
 
 /// Whether the caller of this number is in the list.

@@ -1,6 +1,6 @@
 //! What lies under the lock: the history with its executions, and the board beside it.
 
-ghost use Rattle.std.specs.Prelude.{◌≡◌, ◌≢◌, ℕ, ◌+◌, ◌<◌, ◌↔◌, ◌++◌, ◌∷◌, [], List, true, false, None, Some, is_some, Err, IsTrue, IfOk, IfErr, IfNone, IfSome, OnOk, OnErr, MatchResult, if◌then◌else◌, length, vec_len, vec_capacity};
+ghost use Rattle.std.specs.Prelude.{◌≡◌, ◌≢◌, ℕ, ◌+◌, ◌<◌, ◌≤◌, ◌↔◌, ◌++◌, ◌∷◌, [], List, true, false, None, Some, is_some, Err, IsTrue, IfOk, IfErr, IfNone, IfSome, OnOk, OnErr, MatchResult, if◌then◌else◌, length, vec_len, vec_capacity};
 ghost use Rattle.hla_base.specs.Limits.{ledger_parts, max_callers, max_monitors};
 ghost use mathlib.Core.List.{IsPrefix};
 ghost use Rattle.hla_machine.specs.declared.service.Service.TheVariants as service;
@@ -224,8 +224,7 @@ impl<L: Ledger + Naming, B: FederateAmbassador, W: Publisher<L>, F: Execution> L
     }
 
     /// Resign Federation Execution (HLA 1.3, federation management), and records it. Where the federate resigned, its
-    /// ambassador comes out beside the answer. With either answer comes the history up to this record, unless the records have
-    /// gone out or the board has missed one. `HistoryFull` where the history holds its limit, and `OutOfMemory` where a growth
+    /// ambassador comes out beside the answer. `HistoryFull` where the history holds its limit, and `OutOfMemory` where a growth
     /// was refused; then nothing has changed. Any other fault is the step's answer, and is recorded.
     pub(crate) fn resign(
         &mut self,
@@ -234,7 +233,7 @@ impl<L: Ledger + Naming, B: FederateAmbassador, W: Publisher<L>, F: Execution> L
         federate: FederateNo,
         action: ResignAction,
         mine: &mut Share<L>,
-    ) -> Result<(Stepped, Option<B>, Option<Told<L>>), Fault>
+    ) -> Result<(Stepped, Option<B>), Fault>
         requires { 0 < mine.old.parts }
         ensures asked { IfOk result (λ p. p.0.own
             ≡ step_record actor execution (step.Call federate (service.Resign action)) p.0.answer
@@ -246,30 +245,47 @@ impl<L: Ledger + Naming, B: FederateAmbassador, W: Publisher<L>, F: Execution> L
             ≡ Some (B.heard b))) }
         ensures told { IfOk result (λ p. IfSome p.1
             (λ b. B.heard b ≡ heard_by execution federate self.new.held.history)) }
-        ensures until { IfOk result (λ p. IfSome p.2 (λ h. h ≡ self.new.held.history)) }
-        ensures replays { OnOk result (Replays self.new.held.history) }
-        ensures missed { IfOk result (λ p. IfNone p.2
-            (self.new.ended ≡ false → self.new.posted.whole ≡ false)) }
         ensures recorded { IfOk result (λ p. IsRecorded self.old p.0.own self.new) }
         ensures full { result ≡ Err Fault.HistoryFull ↔ IsFull self.old }
         ensures refused { IfErr result (λ e. IsNotRecorded self.old e self.new) }
         ensures share { CountsRecord result mine.old.amount mine.new.amount }
         ensures parts { mine.new.parts ≡ mine.old.parts }
     {
-        // The ambassador has heard what the history says, before the step,
+        // The ambassador has heard what the history says, before the step.
         self.shared.kept();
         let (stepped, back) = self
             .shared
             .resign(actor, execution, federate, action, mine)?;
-        // and the history with its record replays.
-        self.shared.kept();
         note_record(&mut self.board, &stepped.own);
-        let until = if self.ended {
-            None
-        } else {
-            self.board.all_shown()
-        };
-        Ok((stepped, back, until))
+        Ok((stepped, back))
+    }
+
+    /// The history, for a caller that was told this much of it before; none where the records have gone out, the board has missed
+    /// one, or what was told doesn't begin it.
+    pub(crate) fn all_told(&self, before: &Option<Told<L>>) -> Option<Told<L>>
+        ensures told { IfSome result (λ h. h ≡ self.now.held.history) }
+        ensures later { IfSome result
+            (λ h. IfSome before.now (λ known. IsPrefix known h)) }
+        ensures replays { Replays self.now.held.history }
+        ensures untold { IfNone result (self.now.ended ≡ false → self.now.posted.whole ≡ true
+            → IfSome before.now (λ known. IsPrefix known self.now.held.history) → ⊥) }
+    {
+        self.shared.kept();
+        if self.ended || !self.is_begun_by(before) {
+            return None;
+        }
+        self.board.all_shown()
+    }
+
+    /// Whether what is shown begins with what was told before, if anything was.
+    fn is_begun_by(&self, before: &Option<Told<L>>) -> bool
+        ensures { IsTrue result
+            ↔ IfSome before.now (λ known. IsPrefix known self.now.posted.shown) }
+    {
+        match before {
+            Some(told) => self.board.begins_with(told),
+            None => true,
+        }
     }
 
     /// The beginning of the history that monitors are shown. What waits is published first.
@@ -299,31 +315,34 @@ impl<L: Ledger + Naming, B: FederateAmbassador, W: Publisher<L>, F: Execution> L
         self.board.monitor()
     }
 
-    /// Whether the history up to the resignation of a caller, where it resigned, begins this history.
-    fn knows(&self, left: &Left<L, B>) -> bool
-        ensures known { IsTrue result → IsKnownUntil self.now.held.history left.now }
-        ensures unknown { self.now.ended ≡ false → IsKnownUntil self.now.posted.shown left.now
+    /// Whether the history up to a caller's last act, where it did anything, begins this history.
+    fn knows(&self, seat: &Seat<L>) -> bool
+        ensures known { IsTrue result → IsKnownUntil self.now.held.history seat.now }
+        ensures unknown { self.now.ended ≡ false → IsKnownUntil self.now.posted.shown seat.now
             → IsTrue result }
     {
-        !self.ended && left.is_known_to(&self.board)
+        !self.ended && seat.is_known_to(&self.board)
     }
 
-    /// The place of the first caller whose resignation is not known.
-    fn first_unknown(&self, lefts: &[Left<L, B>]) -> Option<usize>
-        ensures none { IfNone result (AllKnown self.now.held.history lefts.now) }
-        ensures some { IfSome result (λ k. (k < length lefts.now)
-            × (self.now.ended ≡ false → IsUnknownAt self.now.posted.shown lefts.now k)) }
+    /// The place of the first caller whose last act is not known; at the list's length that is the infrastructure itself.
+    fn first_unknown(&self, lefts: &[Left<L, B>], own: &Seat<L>) -> Option<usize>
+        ensures none { IfNone result (AllKnown self.now.held.history lefts.now own.now) }
+        ensures some { IfSome result (λ k. (k ≤ length lefts.now)
+            × (self.now.ended ≡ false → IsUnknownAt self.now.posted.shown lefts.now own.now k)) }
     {
         for (k, left) in lefts.iter().enumerate() {
-            if !self.knows(left) {
+            if !self.knows(left.seat()) {
                 return Some(k);
             }
+        }
+        if !self.knows(own) {
+            return Some(lefts.len());
         }
         None
     }
 
     /// Compares all transcripts with the history, and takes the records out where they agree; then it has ended. Else
-    /// `Resignation` with the place of the first caller whose resignation is not shown, or `Transcript` with that of the first
+    /// `Untold` with the place of the first caller whose last act is not shown, or `Transcript` with that of the first
     /// that differs; then all comes back, and nothing has changed.
     pub fn settle(
         &mut self,
@@ -338,20 +357,24 @@ impl<L: Ledger + Naming, B: FederateAmbassador, W: Publisher<L>, F: Execution> L
         ensures records { IfOk result (λ c. c ≡ self.old.held.history) }
         ensures agree { OnOk result (AllAgree self.old.held.history lefts.items seat) }
         ensures theirs { rest.amount ≡ 0 → seat.number ≡ 0 → IfOk result (AreOfCallers handed) }
-        ensures known { OnOk result (AllKnown self.old.held.history lefts.items) }
+        ensures known { OnOk result (AllKnown self.old.held.history lefts.items seat) }
         ensures differs { IfErr result (λ u. (k : ℕ) → u.fault ≡ CloseFault.Transcript k
             → DiffersFirst self.old.held.history lefts.items seat k) }
-        ensures unknown { IfErr result (λ u. (k : ℕ) → u.fault ≡ CloseFault.Resignation k
-            → (k < vec_len lefts)
-            × (self.old.ended ≡ false → IsUnknownAt self.old.posted.shown lefts.items k)) }
+        ensures compared { IfErr result (λ u. (k : ℕ) → u.fault ≡ CloseFault.Transcript k
+            → AllKnown self.old.held.history lefts.items seat) }
+        ensures replays { Replays self.old.held.history }
+        ensures unknown { IfErr result (λ u. (k : ℕ) → u.fault ≡ CloseFault.Untold k
+            → (k ≤ vec_len lefts)
+            × (self.old.ended ≡ false → IsUnknownAt self.old.posted.shown lefts.items seat k)) }
         ensures present { IfErr result (λ u. u.fault ≢ CloseFault.Missing) }
         ensures back { IfErr result (λ u. (u.seat ≡ seat) × (u.rest ≡ rest) × (u.lefts ≡ lefts)) }
         ensures same { OnErr result (self.new ≡ self.old) }
         ensures ended { OnOk result (self.new.ended ≡ true) }
     {
-        if let Some(place) = self.first_unknown(lefts.as_slice()) {
+        self.shared.kept();
+        if let Some(place) = self.first_unknown(lefts.as_slice(), &seat) {
             return Err(Unsettled {
-                fault: CloseFault::Resignation(place),
+                fault: CloseFault::Untold(place),
                 seat,
                 rest,
                 lefts,

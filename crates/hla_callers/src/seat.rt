@@ -1,14 +1,11 @@
 //! A caller of the run-time infrastructure.
 
 ghost use Rattle.std.specs.Prelude.{◌≡◌, ◌==◌, ◌↔◌, ◌⊎◌, ◌++◌, ◌∷◌, [], List, false, None, Some, Err, length, option_map, is_some, slice_get, not, IsTrue, IfOk, IfErr, IfSome};
-ghost use Rattle.hla_machine.specs.declared.step.Record.{Record as Entry};
-ghost use Rattle.hla_monitor.specs.Counts.{is_resigning};
 ghost use Rattle.hla_machine.specs.declared.service.Service.TheVariants as service;
 ghost use Rattle.hla_machine.specs.declared.step.Act.TheVariants as act;
 ghost use Rattle.hla_machine.specs.declared.step.Answer.TheVariants as answer;
 ghost use Rattle.hla_machine.specs.declared.step.Outcome.TheVariants as outcome;
 ghost use Rattle.hla_machine.specs.declared.step.Step.TheVariants as step;
-ghost use Rattle.hla_history.specs.Closing.{Replays};
 ghost use Rattle.hla_history.specs.Creating.{catalogue_from, is_accepted};
 ghost use Rattle.hla_history.specs.Forms.{NoAnswer, AFederate, IsOfForm, EndsInForm, step_form};
 ghost use Rattle.hla_history.specs.Hosts.{IsPlain};
@@ -22,23 +19,24 @@ use hla_callbacks::FederateAmbassador;
 use hla_execution::Execution;
 use hla_history::{Shared, Stepped, Unmatched};
 use hla_machine::{Answer, Outcome, Record, ResignAction, Step};
-use hla_monitor::{Board, Naming, Publisher, Told, is_resigning_in};
+use hla_monitor::{Board, Naming, Publisher, Told};
 use std::alloc::Global;
 use std::marker::Model;
 use std::sync::ledger::{Ledger, Share};
 use std::sync::{Mutex, Wait};
 
-/// The place of one caller: its number, the records of its own acts in order, and its share of the ledger, which counts
-/// them. Contracts see these three.
+/// The place of one caller: its number, the records of its own acts in order, its share of the ledger, which counts them, and the
+/// history up to its last act, where that is known. Contracts see these four.
 #[derive(Drop)]
-pub struct Seat<L: Ledger> {
+pub struct Seat<L: Ledger + Naming> {
     pub(crate) number: u32,
     pub(crate) transcript: Vec<Record>,
     pub(crate) share: Share<L>,
+    pub(crate) until: Option<Told<L>>,
     pub(crate) patience: Patience,
 }
 
-impl<L: Ledger> Model for Seat<L> {
+impl<L: Ledger + Naming> Model for Seat<L> {
     ghost use Rattle.std.specs.Prelude.{◌≡◌, length};
     ghost use Rattle.hla_callers.specs.Callers.{Caller};
 
@@ -48,17 +46,17 @@ impl<L: Ledger> Model for Seat<L> {
       number = s.number;
       transcript = s.transcript.items;
       share = s.share.amount;
+      until = s.until;
     } };
 
     ghost invariant = { λ s. (s.share.parts ≡ 1) × (s.share.amount ≡ length s.transcript.items) };
 }
 
-/// What a caller leaves behind for `close`: its place, and of a federate that resigned its ambassador and what tells the history up
-/// to its resignation. Contracts see the caller with its transcript, what the ambassador has heard, and that history.
+/// What a caller leaves behind for `close`: its place, and of a federate that resigned its ambassador. Contracts see the caller
+/// with its transcript, and what the ambassador has heard.
 pub struct Left<L: Ledger + Naming, B: FederateAmbassador> {
     pub(crate) seat: Seat<L>,
     pub(crate) ambassador: Option<B>,
-    pub(crate) until: Option<Told<L>>,
 }
 
 impl<L: Ledger + Naming, B: FederateAmbassador> Model for Left<L, B> {
@@ -70,7 +68,6 @@ impl<L: Ledger + Naming, B: FederateAmbassador> Model for Left<L, B> {
     ghost view = { λ l. record {
       caller = l.seat;
       heard = option_map (λ b. B.heard b) l.ambassador;
-      until = l.until;
     } };
 }
 
@@ -80,51 +77,34 @@ impl<L: Ledger + Naming, B: FederateAmbassador> Drop for Left<L, B> {
         let Left {
             seat: _,
             ambassador: _,
-            until: _,
         } = self;
     }
 }
 
 impl<L: Ledger + Naming, B: FederateAmbassador> Left<L, B> {
-    /// What a caller leaves behind, with the ambassador where there is one, and what tells the history up to its resignation.
-    pub fn new(seat: Seat<L>, ambassador: Option<B>, until: Option<Told<L>>) -> Left<L, B>
+    /// What a caller leaves behind, with the ambassador where there is one.
+    pub fn new(seat: Seat<L>, ambassador: Option<B>) -> Left<L, B>
         ensures { result ≡ record {
           caller = seat;
           heard = option_map (λ b. B.heard b) ambassador;
-          until = until;
         } }
     {
-        Left {
-            seat,
-            ambassador,
-            until,
-        }
+        Left { seat, ambassador }
     }
 
     /// Takes the ambassador out, which is there where the federate resigned and it was not taken before.
     pub fn take_ambassador(&mut self) -> Option<B>
         ensures taken { option_map (λ b. B.heard b) result ≡ self.old.heard }
-        ensures after { self.new ≡ record {
-          caller = self.old.caller;
-          heard = None;
-          until = self.old.until;
-        } }
+        ensures after { self.new ≡ record { caller = self.old.caller; heard = None } }
     {
         self.ambassador.take()
     }
 
-    /// Whether the history up to its resignation, where it resigned, begins what a board shows.
-    pub(crate) fn is_known_to<W: Publisher<L>>(&self, board: &Board<L, W>) -> bool
-        ensures known { IsTrue result → IsKnownUntil board.now.shown self.now }
-        ensures unknown { IsKnownUntil board.now.shown self.now → IsTrue result }
+    /// The caller's place.
+    pub(crate) fn seat(&self) -> &Seat<L>
+        ensures { result.now ≡ self.now.caller }
     {
-        if !self.seat.has_resigned() {
-            return true;
-        }
-        match &self.until {
-            Some(told) => board.begins_with(told),
-            None => false,
-        }
+        &self.seat
     }
 
     /// Whether it is that of the caller of this number.
@@ -165,7 +145,6 @@ impl<L: Ledger + Naming, B: FederateAmbassador> Left<L, B> {
         let Left {
             seat,
             ambassador: _,
-            until: _,
         } = self;
         seat.into_share()
     }
@@ -209,22 +188,17 @@ fn joined_as<B: FederateAmbassador>(
     told
 }
 
-/// The ambassador of a federate that resigned, and what tells the history up to there; or why it is refused.
-fn resigned_with<L: Naming, B: FederateAmbassador>(
-    ended: Outcome,
-    back: Option<B>,
-    until: Option<Told<L>>,
-) -> Result<(B, Option<Told<L>>), Fault>
+/// The ambassador of a federate that resigned, or why it is refused.
+fn resigned_with<B: FederateAmbassador>(ended: Outcome, back: Option<B>) -> Result<B, Fault>
     requires form { EndsInForm NoAnswer ended }
     requires back { is_some back ≡ is_accepted ended }
     ensures ok { IfOk result (λ _. ended ≡ outcome.Done answer.Done) }
-    ensures returned { IfOk result (λ p. back ≡ Some p.0) }
-    ensures until { IfOk result (λ p. p.1 ≡ until) }
+    ensures returned { IfOk result (λ b. back ≡ Some b) }
     ensures err { IfErr result (λ e. answer_given ended ≡ Err e) }
 {
     let told = match &ended {
         Outcome::Done(Answer::Done) => match back {
-            Some(inner) => Ok((inner, until)),
+            Some(inner) => Ok(inner),
             None => unreachable!(),
         },
         Outcome::Refused(fault) => Err(*fault),
@@ -245,8 +219,16 @@ impl<L: Ledger + Naming> Seat<L> {
             number,
             transcript: Vec::new(alloc),
             share,
+            until: None,
             patience: Patience::new(),
         }
+    }
+
+    /// The history up to its last act; none where it did nothing, or that was not told.
+    pub fn told(&self) -> Option<Told<L>>
+        ensures { result ≡ self.now.until }
+    {
+        self.until.as_ref().map(|told| told.again())
     }
 
     /// Does a step that is no joining and no resigning, under the lock, and writes it down. It answers what the record says;
@@ -267,7 +249,8 @@ impl<L: Ledger + Naming> Seat<L> {
             return Err(Fault::OutOfMemory);
         }
         let number = self.number;
-        let answer = self.patience.lock(rt, shared).step(
+        let mut locked = self.patience.lock(rt, shared);
+        let answer = locked.step(
             number,
             &execution,
             step,
@@ -275,6 +258,8 @@ impl<L: Ledger + Naming> Seat<L> {
             &mut self.transcript,
             &mut self.patience,
         )?;
+        self.until = locked.all_told(&self.until);
+        drop(locked);
         answered(answer)
     }
 
@@ -295,7 +280,10 @@ impl<L: Ledger + Naming> Seat<L> {
             return Err(Fault::OutOfMemory);
         }
         let number = self.number;
-        let Stepped { own, answer } = shared.lock(rt).create(number, name, fed, &mut self.share)?;
+        let mut locked = shared.lock(rt);
+        let Stepped { own, answer } = locked.create(number, name, fed, &mut self.share)?;
+        self.until = locked.all_told(&self.until);
+        drop(locked);
         self.transcript.push_reserved(own);
         answered(answer)
     }
@@ -315,7 +303,10 @@ impl<L: Ledger + Naming> Seat<L> {
             return Err(Fault::OutOfMemory);
         }
         let number = self.number;
-        let Stepped { own, answer } = shared.lock(rt).destroy(number, name, &mut self.share)?;
+        let mut locked = shared.lock(rt);
+        let Stepped { own, answer } = locked.destroy(number, name, &mut self.share)?;
+        self.until = locked.all_told(&self.until);
+        drop(locked);
         self.transcript.push_reserved(own);
         answered(answer)
     }
@@ -340,11 +331,11 @@ impl<L: Ledger + Naming> Seat<L> {
             return Err((Fault::OutOfMemory, inner));
         }
         let number = self.number;
-        let done = shared
-            .lock(rt)
-            .join(number, execution, name, inner, &mut self.share);
-        match done {
+        let mut locked = shared.lock(rt);
+        match locked.join(number, execution, name, inner, &mut self.share) {
             Ok(joined) => {
+                self.until = locked.all_told(&self.until);
+                drop(locked);
                 let (stepped, back) = joined;
                 self.transcript.push_reserved(stepped.own);
                 joined_as(stepped.answer, back)
@@ -353,8 +344,7 @@ impl<L: Ledger + Naming> Seat<L> {
         }
     }
 
-    /// Resigns a federate under the lock, and writes it down: its ambassador, with what tells the history up to there, which is not
-    /// told where a monitor's board missed a record; or why it is refused.
+    /// Resigns a federate under the lock, and writes it down: its ambassador, or why it is refused.
     pub fn resign<B: FederateAmbassador, W: Publisher<L>, F: Execution>(
         &mut self,
         rt: &impl Wait,
@@ -362,12 +352,11 @@ impl<L: Ledger + Naming> Seat<L> {
         execution: ExecutionName,
         federate: FederateNo,
         action: ResignAction,
-    ) -> Result<(B, Option<Told<L>>), Fault>
+    ) -> Result<B, Fault>
         ensures resigned { IfOk result (λ _. HasResigned self.old execution
             (act.Step (step.Call federate (service.Resign action))) self.new) }
-        ensures heard { IfOk result (λ p. IfSome p.1
-            (λ h. IsHeardUntil execution federate (B.heard p.0) self.new.transcript h)) }
-        ensures replays { IfOk result (λ p. IfSome p.1 Replays) }
+        ensures heard { IfOk result (λ b. IfSome self.new.until
+            (λ h. IsHeardUntil execution federate (B.heard b) self.new.transcript h)) }
         ensures refused { IfErr result (λ e. HasAnswered self.old execution
             (act.Step (step.Call federate (service.Resign action))) (Err e) self.new) }
     {
@@ -375,29 +364,29 @@ impl<L: Ledger + Naming> Seat<L> {
             return Err(Fault::OutOfMemory);
         }
         let number = self.number;
-        let done = shared
-            .lock(rt)
-            .resign(number, execution, federate, action, &mut self.share);
-        match done {
+        let mut locked = shared.lock(rt);
+        match locked.resign(number, execution, federate, action, &mut self.share) {
             Ok(resigned) => {
-                let (stepped, back, until) = resigned;
+                self.until = locked.all_told(&self.until);
+                drop(locked);
+                let (stepped, back) = resigned;
                 self.transcript.push_reserved(stepped.own);
-                resigned_with(stepped.answer, back, until)
+                resigned_with(stepped.answer, back)
             }
             Err(fault) => Err(fault),
         }
     }
-}
 
-impl<L: Ledger> Seat<L> {
-    /// Whether the last of its acts was to resign, which was done.
-    pub(crate) fn has_resigned(&self) -> bool
-        ensures last { (before : List Entry) (r : Entry) → self.now.transcript ≡ before ++ r ∷ []
-            → result ≡ is_resigning r.act r.outcome }
-        ensures none { self.now.transcript ≡ [] → result ≡ false }
+    /// Whether the history up to its last act, where it did anything, begins what a board shows.
+    pub(crate) fn is_known_to<W: Publisher<L>>(&self, board: &Board<L, W>) -> bool
+        ensures known { IsTrue result → IsKnownUntil board.now.shown self.now }
+        ensures unknown { IsKnownUntil board.now.shown self.now → IsTrue result }
     {
-        match self.transcript.last() {
-            Some(entry) => is_resigning_in(entry),
+        if self.transcript.as_slice().is_empty() {
+            return true;
+        }
+        match &self.until {
+            Some(told) => board.begins_with(told),
             None => false,
         }
     }

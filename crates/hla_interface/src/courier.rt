@@ -14,7 +14,7 @@ use hla_callbacks::FederateAmbassador;
 use hla_callers::{Left, Locked, Seat};
 use hla_execution::Execution;
 use hla_machine::{Carried, Step};
-use hla_monitor::{Naming, Publisher};
+use hla_monitor::{Naming, Publisher, Told};
 use std::alloc::Global;
 use std::marker::Model;
 use std::sync::ledger::Ledger;
@@ -87,12 +87,20 @@ impl<L: Ledger + Naming, B: FederateAmbassador, W: Publisher<L>, F: Execution> C
         )
     }
 
+    /// The history up to its last act, which ends with that act's record; none where it has done nothing, or that was not told.
+    /// It makes no step (this profile).
+    pub fn told(&self) -> Option<Told<L>>
+        ensures { result ≡ self.now.until }
+    {
+        self.seat.told()
+    }
+
     /// Ends the caller without a step.
     pub fn leave(self) -> Left<L, B>
-        ensures left { result ≡ record { caller = self; heard = None; until = None } }
+        ensures left { result ≡ record { caller = self; heard = None } }
         ensures exchanges { All IsExchange self.transcript }
     {
         let Courier { seat, shared: _ } = self;
-        Left::new(seat, None, None)
+        Left::new(seat, None)
     }
 }

@@ -20,7 +20,7 @@ use hla_callbacks::{Callback, FederateAmbassador};
 use hla_callers::{Left, Locked, Seat};
 use hla_execution::Execution;
 use hla_machine::{Answer, ResignAction, Service, Step};
-use hla_monitor::{Naming, Publisher};
+use hla_monitor::{Naming, Publisher, Told};
 use std::alloc::Global;
 use std::marker::Model;
 use std::sync::ledger::Ledger;
@@ -163,7 +163,7 @@ impl<L: Ledger + Naming, B: FederateAmbassador, W: Publisher<L>, F: Execution> F
     }
 
     /// Resign Federation Execution (HLA 1.3, federation management), and the action says what becomes of the federate's
-    /// objects. The place and the ambassador go out for `close`, with what tells the history up to there: a run of the central
+    /// objects. The place and the ambassador go out for `close`. Where the history up to there is told, it is a run of the central
     /// machine, of which the ambassador has heard just the callbacks that were given to this federate since it joined.
     /// `InvalidResignAction` where the action releases attributes;
     /// `FederateOwnsAttributes` by no action while the federate has objects; `LimitReached` where a removal would need a
@@ -179,25 +179,25 @@ impl<L: Ledger + Naming, B: FederateAmbassador, W: Publisher<L>, F: Execution> F
             (act.Step (step.Call self.federate (service.Resign action))) l.caller) }
         ensures ambassador { IfOk result (λ l. is_some l.heard ≡ true) }
         ensures heard { IfOk result (λ l. HeardAll self.execution self.federate l) }
-        ensures replays { IfOk result (λ l. IfSome l.until Replays) }
-        ensures run { IfOk result (λ l. IfSome l.until
+        ensures replays { IfOk result (λ l. IfSome l.caller.until Replays) }
+        ensures run { IfOk result (λ l. IfSome l.caller.until
             (λ h. (y : Executions) × AreRun no_executions h y)) }
-        ensures laws { IfOk result (λ l. IfSome l.until AreLawful) }
-        ensures discoveries { IfOk result (λ l. IfSome l.until AreDiscoveredInTurn) }
+        ensures laws { IfOk result (λ l. IfSome l.caller.until AreLawful) }
+        ensures discoveries { IfOk result (λ l. IfSome l.caller.until AreDiscoveredInTurn) }
         ensures refused { IfErr result (λ e. IsServed self (service.Resign action) (Err e.0) e.1) }
     {
         match self
             .seat
             .resign(rt, &self.shared, self.execution, self.federate, action)
         {
-            Ok((inner, until)) => {
+            Ok(inner) => {
                 let Federate {
                     seat,
                     shared: _,
                     execution: _,
                     federate: _,
                 } = self;
-                Ok(Left::new(seat, Some(inner), until))
+                Ok(Left::new(seat, Some(inner)))
             }
             Err(fault) => Err((fault, self)),
         }
@@ -210,9 +210,17 @@ impl<L: Ledger + Naming, B: FederateAmbassador, W: Publisher<L>, F: Execution> F
         self.federate
     }
 
+    /// The history up to its last act, which ends with that act's record; none where it has done nothing, or that was not told.
+    /// It makes no step (this profile).
+    pub fn told(&self) -> Option<Told<L>>
+        ensures { result ≡ self.now.caller.until }
+    {
+        self.seat.told()
+    }
+
     /// Ends the caller without a step: the federate stays joined.
     pub fn leave(self) -> Left<L, B>
-        ensures { result ≡ record { caller = self.caller; heard = None; until = None } }
+        ensures { result ≡ record { caller = self.caller; heard = None } }
     {
         let Federate {
             seat,
@@ -220,6 +228,6 @@ impl<L: Ledger + Naming, B: FederateAmbassador, W: Publisher<L>, F: Execution> F
             execution: _,
             federate: _,
         } = self;
-        Left::new(seat, None, None)
+        Left::new(seat, None)
     }
 }

@@ -7,6 +7,7 @@ ghost use Rattle.hla_machine.specs.declared.step.Act.TheVariants as act;
 ghost use Rattle.hla_machine.specs.declared.step.Answer.TheVariants as answer;
 ghost use Rattle.hla_machine.specs.declared.step.Outcome.TheVariants as outcome;
 ghost use Rattle.hla_machine.specs.declared.step.Step.TheVariants as step;
+ghost use Rattle.hla_history.specs.Closing.{Replays};
 ghost use Rattle.hla_history.specs.Creating.{catalogue_from};
 ghost use Rattle.hla_callers.specs.Close.{AllHere, AllAgree, AllKnown, AreOfCallers, DiffersFirst};
 ghost use Rattle.hla_callers.specs.Callers.{Caller, new_caller, HasActed, HasNotActed, HasAnswered, said, nothing};
@@ -165,6 +166,14 @@ impl<L: Ledger + Naming, B: FederateAmbassador, W: Publisher<L>, F: Execution> R
         Ok(Courier { seat, shared })
     }
 
+    /// The history up to its own last act, which ends with that act's record; none where it has done nothing, or that was not told.
+    /// It makes no step (this profile).
+    pub fn told(&self) -> Option<Told<L>>
+        ensures { result ≡ self.now.own.until }
+    {
+        self.seat.told()
+    }
+
     /// What monitors are shown now, of the history that led here. It makes no step; a monitor that learns it does not fall
     /// behind it (this profile).
     pub fn tell(&mut self, rt: &impl Wait) -> Told<L>
@@ -241,10 +250,10 @@ impl<L: Ledger + Naming, B: FederateAmbassador, W: Publisher<L>, F: Execution> R
     }
 
     /// Takes all callers back, and answers the records of the whole history, where each transcript is just the records of its
-    /// caller, in order, and the history up to a resignation begins it. Else `Missing` where a caller that was handed out is not in
-    /// the list, then `Resignation` with the place of the first whose history up to its resignation is not known to begin this one,
-    /// and then `Transcript` with the place of the first that differs; then the infrastructure and the list come back, and nothing
-    /// has changed. Each record is of one of the callers, or of the infrastructure itself, whose number is 0.
+    /// caller, in order, and what each was told of the history behind its last act begins it. Else `Missing` where a caller that was
+    /// handed out is not in the list, then `Untold` with the place of the first whose history up to its last act is not known to begin
+    /// this one, and then `Transcript` with the place of the first that differs; then the infrastructure and the list come back, and
+    /// nothing has changed. Each record is of one of the callers, or of the infrastructure itself, whose number is 0.
     pub fn close(
         self,
         rt: &impl Wait,
@@ -252,7 +261,7 @@ impl<L: Ledger + Naming, B: FederateAmbassador, W: Publisher<L>, F: Execution> R
     ) -> Result<Closed, NotClosed<L, B, W, F>>
         requires { L.parts ≡ ledger_parts }
         ensures agree { IfOk result (λ c. AllAgree c lefts.items self.own) }
-        ensures known { IfOk result (λ c. AllKnown c lefts.items) }
+        ensures known { IfOk result (λ c. AllKnown c lefts.items self.own) }
         ensures theirs { IfOk result (AreOfCallers self.handed) }
         ensures own { self.own.number ≡ 0 }
         ensures here { OnOk result (AllHere self.handed lefts.items) }
@@ -261,9 +270,10 @@ impl<L: Ledger + Naming, B: FederateAmbassador, W: Publisher<L>, F: Execution> R
         ensures present { IfErr result
             (λ n. n.fault ≢ CloseFault.Missing → AllHere self.handed lefts.items) }
         ensures differs { IfErr result (λ n. (k : ℕ) → n.fault ≡ CloseFault.Transcript k
-            → (h : List Record) × DiffersFirst h lefts.items self.own k) }
-        ensures unknown { IfErr result (λ n. (k : ℕ) → n.fault ≡ CloseFault.Resignation k
-            → k < vec_len lefts) }
+            → (h : List Record) × Replays h × AllKnown h lefts.items self.own
+            × DiffersFirst h lefts.items self.own k) }
+        ensures unknown { IfErr result (λ n. (k : ℕ) → n.fault ≡ CloseFault.Untold k
+            → k ≤ vec_len lefts) }
         ensures back { IfErr result (λ n. (n.rti ≡ self) × (n.lefts ≡ lefts)) }
     {
         if !all_here(self.handed, lefts.as_slice()) {

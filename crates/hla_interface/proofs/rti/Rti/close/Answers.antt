@@ -5,7 +5,9 @@ use Rattle.hla_callers.specs.Close.{AllHere, AllKnown, AreOfCallers, DiffersFirs
 use Rattle.hla_interface.proofs.rti.Rti.close.Goals as goal
 
 pub returns-in-Ok-clause-known : goal.returns-in-Ok-clause-known
-returns-in-Ok-clause-known g c = subst (λ (h : List Record). AllKnown h c.args.lefts.items) (sym c.in-Ok.ensures.records) c.in-Ok.ensures.known
+returns-in-Ok-clause-known g c =
+    subst (λ (o : Office). AllKnown c.in-Ok.closed c.args.lefts.items o.own) c.self.view_is
+    (subst (λ (h : List Record). AllKnown h c.args.lefts.items c.self.inside.seat) (sym c.in-Ok.ensures.records) c.in-Ok.ensures.known)
 
 pub returns-in-Ok-clause-theirs : goal.returns-in-Ok-clause-theirs
 returns-in-Ok-clause-theirs g c =
@@ -23,7 +25,9 @@ returns-in-Err-clause-present g c other =
 
 pub returns-in-Err-clause-differs : goal.returns-in-Err-clause-differs
 returns-in-Err-clause-differs g c k is =
-    (c.deref_mut.result.now.held.history, subst (λ (o : Office). DiffersFirst c.deref_mut.result.now.held.history c.args.lefts.items o.own k) c.self.view_is (c.in-Err.ensures.differs k is))
+    let h : List Record = c.deref_mut.result.now.held.history in
+    let both = subst (λ (o : Office). AllKnown h c.args.lefts.items o.own × DiffersFirst h c.args.lefts.items o.own k) c.self.view_is (c.in-Err.ensures.compared k is, c.in-Err.ensures.differs k is) in
+    (h, c.in-Err.ensures.replays, both.0, both.1)
 
 pub returns-in-Err-clause-unknown : goal.returns-in-Err-clause-unknown
 returns-in-Err-clause-unknown g c k is = (c.in-Err.ensures.unknown k is).0
