@@ -22,3 +22,7 @@ mod stepping;
 mod steps;
 #[cfg(test)]
 mod threads;
+#[cfg(test)]
+mod told;
+#[cfg(test)]
+mod undefined;

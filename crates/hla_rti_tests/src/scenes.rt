@@ -6,6 +6,8 @@ ghost use Rattle.hla_base.specs.Limits.{ledger_parts};
 use crate::callers::check;
 use crate::monitor::{beside_two, eight_steps, three_steps};
 use crate::runs::close;
+use crate::told::up_to_own_acts;
+use crate::undefined::refuse_undefined;
 use hla_base::{Fault, LEDGER_PARTS, MAX_HISTORY_LIMIT};
 use hla_callbacks::Recorder;
 use hla_monitor::{Naming, Opened, Publisher};
@@ -49,6 +51,10 @@ pub enum Scene {
     ToldFirst(u64),
     /// The same, but they are read before they are told.
     ReadFirst(u64),
+    /// Each caller is told the history up to its own last act.
+    UpToOwnActs,
+    /// Numbers that the FED file does not define are refused.
+    Undefined,
     /// No count that a monitor reads falls beside two callers.
     BesideTwo,
 }
@@ -56,7 +62,7 @@ pub enum Scene {
 /// A scene with its name, and how many records its history may hold.
 type Row = (&'static str, Scene, usize);
 
-static ON_ONE_THREAD: [Row; 18] = [
+static ON_ONE_THREAD: [Row; 20] = [
     ("full at two", Scene::Closed(Run::FullAtTwo), 2),
     (
         "failing ambassador",
@@ -68,6 +74,8 @@ static ON_ONE_THREAD: [Row; 18] = [
     ("all couriers", Scene::Closed(Run::AllCouriers), 100),
     ("one missing", Scene::Closed(Run::OneMissing), 100),
     ("whole run", Scene::Closed(Run::WholeRun), 100),
+    ("up to own acts", Scene::UpToOwnActs, 6),
+    ("undefined numbers", Scene::Undefined, 100),
     ("eight steps", Scene::EightSteps, 100),
     ("told first, a monitor after 0", Scene::ToldFirst(0), 100),
     ("told first, a monitor after 1", Scene::ToldFirst(1), 100),
@@ -96,6 +104,8 @@ fn play<L: Ledger + Naming + Send + Sync, W: Publisher<L> + Send, R: Threads + W
         Scene::EightSteps => eight_steps(rt, alloc, rti),
         Scene::ToldFirst(handed) => three_steps(rt, alloc, rti, handed, true, name),
         Scene::ReadFirst(handed) => three_steps(rt, alloc, rti, handed, false, name),
+        Scene::UpToOwnActs => up_to_own_acts(rt, alloc, rti),
+        Scene::Undefined => refuse_undefined(rt, alloc, rti),
         Scene::BesideTwo => beside_two(rt, alloc, rti),
     }
 }
