@@ -42,7 +42,7 @@ grown rs r n is = by_more rs r n ∙ ap (λ (xs : List Record). records_by n rs 
 pub stayed : (rs : List Record) (r : Record) (n : ℕ) → (r.actor ≡ n → ⊥) → records_by n (rs ++ r ∷ []) ≡ records_by n rs
 stayed rs r n other = by_more rs r n ∙ ap (λ (xs : List Record). records_by n rs ++ xs) (by_another r n other) ∙ append_nil (records_by n rs)
 
-pub book_grown : (rs : List Record) (r : Record) (n : ℕ) (old new : Caller) → IsBook rs n old → r.actor ≡ old.number → new ≡ with_own old r → IsBook (rs ++ r ∷ []) n new
+pub book_grown : (rs : List Record) (r : Record) (n : ℕ) (old new : Caller) → IsBook rs n old → r.actor ≡ old.number → new ≡ with_own old r new.until → IsBook (rs ++ r ∷ []) n new
 book_grown rs r n old new is own grows = (
   ap (λ (c : Caller). c.number) grows ∙ is.0,
   ap (λ (c : Caller). c.transcript) grows ∙ ap (λ (xs : List Record). xs ++ r ∷ []) is.1 ∙ sym (grown rs r n (own ∙ is.0)),
@@ -116,7 +116,7 @@ module _ {L B P F : Type 0} where
 
   -- that one acts
   pub players_acted : (rs : List Record) (r : Record) (n k : ℕ) (fs : List ℕ) (ps : List (Option (Player L B P F))) (old new : Player L B P F) → ArePlayers rs n fs ps → slice_get ps k ≡ Some (Some old)
-      → r.actor ≡ (caller_of old).number → caller_of new ≡ with_own (caller_of old) r → ((f : ℕ) → IsAs f old → IsAs f new) → ArePlayers (rs ++ r ∷ []) n fs (slice_set ps k (Some new))
+      → r.actor ≡ (caller_of old).number → caller_of new ≡ with_own (caller_of old) r (caller_of new).until → ((f : ℕ) → IsAs f old → IsAs f new) → ArePlayers (rs ++ r ∷ []) n fs (slice_set ps k (Some new))
   players_acted rs r n k [] [] old new are at own grows keeps = cc
   players_acted rs r n k [] (q ∷ ps) old new are at own grows keeps = absurd are
   players_acted rs r n k (f ∷ fs) [] old new are at own grows keeps = absurd are
@@ -158,7 +158,7 @@ others_stay rs r more known others n above =
 
 module _ {L B P F : Type 0} where
   -- the infrastructure itself acts, and nobody joins
-  pub itself_acted : (rs : List Record) (r : Record) (own new courier : Caller) (ps : List (Option (Player L B P F))) → Stand rs own courier ps → r.actor ≡ own.number → new ≡ with_own own r → number_joined r.act r.outcome ≡ [] → Stand (rs ++ r ∷ []) new courier ps
+  pub itself_acted : (rs : List Record) (r : Record) (own new courier : Caller) (ps : List (Option (Player L B P F))) → Stand rs own courier ps → r.actor ≡ own.number → new ≡ with_own own r new.until → number_joined r.act r.outcome ≡ [] → Stand (rs ++ r ∷ []) new courier ps
   itself_acted rs r own new courier ps s acts grows none =
       let zeroth : r.actor ≡ 0 = acts ∙ s.itself.0 in
       let same = none_more rs r none in
@@ -171,7 +171,7 @@ module _ {L B P F : Type 0} where
       }
 
   -- the courier acts
-  pub courier_acted : (rs : List Record) (r : Record) (own courier new : Caller) (ps : List (Option (Player L B P F))) → Stand rs own courier ps → r.actor ≡ courier.number → new ≡ with_own courier r → number_joined r.act r.outcome ≡ [] → Stand (rs ++ r ∷ []) own new ps
+  pub courier_acted : (rs : List Record) (r : Record) (own courier new : Caller) (ps : List (Option (Player L B P F))) → Stand rs own courier ps → r.actor ≡ courier.number → new ≡ with_own courier r new.until → number_joined r.act r.outcome ≡ [] → Stand (rs ++ r ∷ []) own new ps
   courier_acted rs r own courier new ps s acts grows none =
       let first : r.actor ≡ 1 = acts ∙ s.carrier.0 in
       let same = none_more rs r none in
@@ -185,7 +185,7 @@ module _ {L B P F : Type 0} where
 
   -- a federate acts
   pub player_acted : (rs : List Record) (r : Record) (own courier : Caller) (ps : List (Option (Player L B P F))) (k : ℕ) (old new : Player L B P F) → Stand rs own courier ps → slice_get ps k ≡ Some (Some old)
-      → r.actor ≡ (caller_of old).number → caller_of new ≡ with_own (caller_of old) r → ((f : ℕ) → IsAs f old → IsAs f new) → number_joined r.act r.outcome ≡ [] → Stand (rs ++ r ∷ []) own courier (slice_set ps k (Some new))
+      → r.actor ≡ (caller_of old).number → caller_of new ≡ with_own (caller_of old) r (caller_of new).until → ((f : ℕ) → IsAs f old → IsAs f new) → number_joined r.act r.outcome ≡ [] → Stand (rs ++ r ∷ []) own courier (slice_set ps k (Some new))
   player_acted rs r own courier ps k old new s at acts grows keeps none =
       let there = player_at rs 2 k (entrants rs) ps (Some old) s.federates at in
       let number : r.actor ≡ 2 + k = acts ∙ there.2.0.0 in
@@ -200,7 +200,7 @@ module _ {L B P F : Type 0} where
       }
 
   -- a federate joins, as a new caller
-  pub federate_joined : (rs : List Record) (r : Record) (own new courier : Caller) (ps : List (Option (Player L B P F))) (f n : ℕ) (p : Player L B P F) → Stand rs own courier ps → r.actor ≡ own.number → new ≡ with_own own r
+  pub federate_joined : (rs : List Record) (r : Record) (own new courier : Caller) (ps : List (Option (Player L B P F))) (f n : ℕ) (p : Player L B P F) → Stand rs own courier ps → r.actor ≡ own.number → new ≡ with_own own r new.until
       → number_joined r.act r.outcome ≡ f ∷ [] → n ≡ length ps + 2 → caller_of p ≡ new_caller n → IsAs f p → Stand (rs ++ r ∷ []) new courier (ps ++ Some p ∷ [])
   federate_joined rs r own new courier ps f n p s acts grows one is_next is_new keeps =
       let zeroth : r.actor ≡ 0 = acts ∙ s.itself.0 in

@@ -3,7 +3,7 @@
 //! Here, as in `hla_run`, what is large goes to `drop` by name: such a call is proved once, and what goes out of
 //! scope is taken apart, variant by variant, in the proof of each function that lets it.
 
-ghost use Rattle.std.specs.Prelude.{◌≡◌, ◌||◌, ◌<◌, ◌≤◌, ℕ, List, [], drop, length, OnOk, IfOk, IfErr, codes, true, vec_len, vec_capacity};
+ghost use Rattle.std.specs.Prelude.{◌≡◌, ◌≢◌, ◌||◌, ◌<◌, ◌≤◌, ℕ, List, [], drop, length, OnOk, IfOk, IfErr, codes, true, vec_len, vec_capacity};
 ghost use Rattle.std.specs.List.{All};
 ghost use Rattle.hla_base.specs.Limits.{ledger_parts, max_history_limit};
 ghost use Rattle.hla_outcomes.specs.Joining.{joins, joins_by, script_joins, step_joins};
@@ -440,6 +440,9 @@ pub fn run_in_order<L: Ledger + Naming, B: FederateAmbassador, F: Execution, R: 
     // memory ran out nothing is written, where a write failed a beginning of how the lines came out, and else all of it.
     ensures stopped { IfErr result (StopsInOrder fed.now script.now (vec_len ambassadors)
         (W.contents out.old.inner) (W.contents out.new.inner)) }
+
+    // Nobody watches.
+    ensures unwatched { IfErr result (λ e. e ≢ RunFault.Monitor) }
 
     // A write has failed where that is answered, and nowhere else.
     ensures failure { out.new.has_failed ≡ (out.old.has_failed || is_unwritten_run result) }

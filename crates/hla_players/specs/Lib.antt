@@ -4,3 +4,5 @@ pub mod Joining
 pub mod Running
 -- What a line has a federate of a script do
 pub mod Deeds
+-- What a monitor reads beside a run
+pub mod Watching

@@ -3,7 +3,7 @@
 ghost use Rattle.std.specs.Prelude.{◌≡◌, ◌≢◌, ◌||◌, IfOk, OnOk, IfErr, is_some, true};
 ghost use Rattle.hla_base.specs.Limits.{ledger_parts};
 ghost use Rattle.std.specs.Io.KnownBytes.{Appends};
-ghost use Rattle.hla_callers.specs.Close.{AllAgree, AllHere, AreOfCallers};
+ghost use Rattle.hla_callers.specs.Close.{AllAgree, AllHere, AllKnown, AreOfCallers};
 ghost use Rattle.hla_outcomes.specs.Running.{IsSeen, StopsText, told_text, is_unwritten_run};
 
 use crate::watching::{Ran, is_seen};
@@ -52,6 +52,7 @@ pub fn close_told<
     ensures told { OnOk result (Appends (W.contents out.old.inner) (W.contents out.new.inner)
         (told_text catalogue.now lines.now outcomes.now)) }
     ensures agree { IfOk result (λ history. AllAgree history lefts.items rti.own) }
+    ensures known { IfOk result (λ history. AllKnown history lefts.items rti.own) }
     ensures theirs { IfOk result (AreOfCallers rti.handed) }
     ensures own { OnOk result (rti.own.number ≡ 0) }
     ensures here { OnOk result (AllHere rti.handed lefts.items) }
@@ -94,10 +95,12 @@ pub fn close_seen<
     ensures told { OnOk result (Appends (W.contents out.old.inner) (W.contents out.new.inner)
         (told_text catalogue.now lines.now outcomes.now)) }
     ensures agree { IfOk result (λ r. AllAgree r.closed lefts.items rti.own) }
+    ensures known { IfOk result (λ r. AllKnown r.closed lefts.items rti.own) }
     ensures theirs { IfOk result (λ r. AreOfCallers rti.handed r.closed) }
     ensures own { OnOk result (rti.own.number ≡ 0) }
     ensures here { OnOk result (AllHere rti.handed lefts.items) }
     ensures seen { IfOk result (λ r. IsSeen (is_some seen) r.closed r.seen) }
+    ensures same { IfOk result (λ r. r.seen ≡ seen) }
     ensures watched { IfErr result (λ e. e ≡ RunFault.Monitor → is_some seen ≡ true) }
     ensures stopped { IfErr result (StopsText (told_text catalogue.now lines.now outcomes.now)
         (W.contents out.old.inner) (W.contents out.new.inner)) }

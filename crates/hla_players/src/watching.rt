@@ -2,6 +2,7 @@
 
 ghost use Rattle.std.specs.Prelude.{◌≡◌, ◌↔◌, IfErr, IfOk, IsTrue, is_some, true};
 ghost use Rattle.hla_outcomes.specs.Running.{CountsBeginning, IsSeen};
+ghost use Rattle.hla_players.specs.Watching.{IsReadBy};
 
 use hla_base::Fault;
 use hla_callbacks::FederateAmbassador;
@@ -40,9 +41,10 @@ pub fn watcher<L: Ledger + Naming, B: FederateAmbassador, P: Publisher<L>, F: Ex
     }
 }
 
-/// What the monitor reads, if there is one.
+/// What the monitor reads, if there is one: the counts of a beginning of the history that begins with what it knew.
 pub fn last_read<L: Naming>(monitor: Option<Monitor<L>>) -> Option<Status>
-    ensures { is_some result ≡ is_some monitor }
+    ensures there { is_some result ≡ is_some monitor }
+    ensures counts { IsReadBy monitor result }
 {
     match monitor {
         Some(mut monitor) => Some(monitor.read()),

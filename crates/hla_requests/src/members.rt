@@ -1,7 +1,8 @@
 //! The federates that have joined, by name.
 
-ghost use Rattle.std.specs.Prelude.{◌≡◌, ◌∷◌, ◌++◌, ◌+◌, ◌≤◌, [], map, IfOk, IfErr, is_some, vec_len, vec_capacity};
+ghost use Rattle.std.specs.Prelude.{◌≡◌, ◌∷◌, ◌++◌, ◌+◌, ◌≤◌, ℕ, [], List, map, IfOk, IfErr, is_some, vec_len, vec_capacity};
 ghost use Rattle.std.specs.Str.{bytes_eq};
+ghost use Rattle.hla_machine.specs.declared.step.Step.TheVariants.{Join};
 ghost use Rattle.hla_requests.specs.Members.{change_of, federate_named, joined_federate_named, with_change, without};
 
 use hla_base::{Fault, FederateNo, List, Plain};
@@ -30,7 +31,9 @@ pub enum MemberChange {
 impl MemberChange {
     /// What a step changes. `OutOfMemory` where a growth was refused for the name.
     pub fn of(step: &Step) -> Result<MemberChange, Fault>
-        ensures { IfOk result (λ change. change ≡ change_of step.now) }
+        ensures ok { IfOk result (λ change. change ≡ change_of step.now) }
+        ensures err { IfErr result
+            (λ e. (e ≡ Fault.OutOfMemory) × (name : List ℕ) × (step.now ≡ Join name)) }
     {
         match step {
             Step::Join { name } => Ok(MemberChange::Joins { name: name.copy()? }),
