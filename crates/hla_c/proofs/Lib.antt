@@ -1,4 +1,4 @@
 -- A box in the C library's heap
 mod AsBox
--- A service with values
+-- A step of a session, and a service with values
 mod Serving

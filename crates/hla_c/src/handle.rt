@@ -71,11 +71,15 @@ impl Handle {
     }
 }
 
-fn crosses<T: Send>(x: T) -> T {
+fn crosses<T: Send>(x: T) -> T
+    ensures { result ≡ x }
+{
     x
 }
 
-/// A handle may go from thread to thread: proved, as it is not where `Handle` is not `Send`.
-pub fn sent(handle: Handle) -> Handle {
+/// A handle may go from thread to thread, and is the same there: proved, as it is not where `Handle` is not `Send`.
+pub fn sent(handle: Handle) -> Handle
+    ensures { result.sealed.content ≡ handle.sealed.content }
+{
     crosses(handle)
 }

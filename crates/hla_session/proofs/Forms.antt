@@ -19,5 +19,5 @@ answer_form s step a is = ends_in_form (Some (record { components = s; heard = �
 
 -- a step of the federation is a call
 pub called : (old : Session) (new : FederationValue) (step : Step) (result : Result Answer Fault) → DoesStep old.federation step result new → IsCalled old step result (record old { federation = new })
-called old new step (Ok a) does = ((does.outcome, does.state, refl), refl)
+called old new step (Ok a) does = ((does.outcome, does.state, refl, does.machine), refl)
 called old new step (Err e) does = (does.refused, λ i. record old { federation = does.unchanged i })

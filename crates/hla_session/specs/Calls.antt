@@ -8,17 +8,21 @@ use Rattle.hla_machine.specs.declared.step.Step.TheVariants.{Call}
 use Rattle.hla_machine.specs.declared.step.Answer.{Answer}
 use Rattle.hla_machine.specs.declared.step.Answer.TheVariants as answer
 use Rattle.hla_machine.specs.declared.step.Outcome.TheVariants as outcome
+use Rattle.hla_machine.specs.Runs.{IsMachineStep}
+use Rattle.hla_components.specs.CentralOf.{central}
+use Rattle.hla_components.specs.Headline.{happening}
 use Rattle.hla_components.specs.Next.{next}
 use Rattle.hla_federation.specs.Steps.State.{state_of}
 use Rattle.hla_federation.specs.Steps.Memory.{IsRefusedWith}
 use Rattle.hla_session.specs.declared.session.Session.{Session}
 
--- the execution takes the step with this answer
+-- the execution takes the step with this answer, and it is one of the central machine
 abbrev pub HasStepped : Session → Step → Answer → Session → Type 0
 HasStepped old step a new =
     ((next (state_of old.federation) step).outcome ≡ outcome.Done a)
     × (state_of new.federation ≡ (next (state_of old.federation) step).state)
     × (new.catalogue ≡ old.catalogue)
+    × IsMachineStep (central (state_of old.federation)) (happening step (next (state_of old.federation) step)) (central (state_of new.federation))
 
 -- the step is refused as the definitions say, or for want of memory, if it takes any
 abbrev pub IsRefused : Session → Step → Fault → Type 0
