@@ -60,7 +60,7 @@ unjudged fed script records has =
       breaks = record {
         records = records;
         left = [];
-        played = record { done = from.lines; parts = sym (append-nil from.lines); played = record { played = from.played; remembered = λ all. has.0.remembered } };
+        played = record { done = from.lines; parts = sym (append-nil from.lines); played = record { played = from.played; remembered = λ all. has.0.remembered }; follows = has.1 };
       };
     }
 

@@ -9,6 +9,7 @@ use Rattle.hla_transcript.specs.declared.listing.ListFault.{ListFault}
 use Rattle.hla_transcript.specs.declared.listing.ListFault.TheVariants as unlisted
 use Rattle.hla_script.specs.declared.player.PlayFault.{PlayFault}
 use Rattle.hla_script.specs.declared.player.PlayFault.TheVariants as unplayed
+use Rattle.hla_script.specs.Following.{FollowNext}
 use Rattle.hla_script.specs.Playing.{IsPlayedFrom, StopsBy, is_failed_transcript}
 use Rattle.hla_script.proofs.BreakLemmas.{broken_behind}
 use Rattle.hla_transcript.specs.Watching.{Stream}
@@ -60,8 +61,8 @@ listed_unheld fed a b c is kept =
     (is.0, is.1, (length text, subst (λ (t : List ℕ). Appends a c t) (sym (take_all (length text) text (omega arith))) (appends_kept a b c text is.2 kept)))
 
 -- all of a transcript that could not be handed on
-pub played_unheld : (fed script : List ℕ) (a b c : Option (List ℕ)) (records : List Record) → IsPlayedFrom fed script a b records → Keeps b c → StopsBy false fed script a c unplayed.Write
-played_unheld fed script a b c records is kept = broken_behind fed script a b c records is (appends_kept b b c [] (appends_none b) kept)
+pub played_unheld : (fed script : List ℕ) (a b c : Option (List ℕ)) (records : List Record) → IsPlayedFrom fed script a b records → FollowNext records → Keeps b c → StopsBy false fed script a c unplayed.Write
+played_unheld fed script a b c records is follows kept = broken_behind fed script a b c records is follows (appends_kept b b c [] (appends_none b) kept)
 
 pub played_kept : (fed script : List ℕ) (a b c : Option (List ℕ)) (records : _) → IsPlayedFrom fed script a b records → Keeps b c → IsPlayedFrom fed script a c records
 played_kept fed script a b c records is kept = record {

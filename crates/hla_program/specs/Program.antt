@@ -6,7 +6,7 @@ use Rattle.hla_fed_file.specs.declared.fault.FedFault.{FedFault}
 use Rattle.hla_commands.specs.FaultName.{kind_name}
 use Rattle.hla_transcript.specs.Listed.{IsListed, StopsListing}
 use Rattle.hla_script.specs.Playing.{IsPlayedFrom, IsPlayedWhole, StopsBy}
-use Rattle.hla_script.specs.Keeping.{FollowNext}
+use Rattle.hla_script.specs.Following.{FollowNext}
 use Rattle.hla_commands.specs.declared.lines.ScriptFault.{ScriptFault}
 use Rattle.hla_machine.specs.declared.step.Record.{Record}
 use Rattle.hla_checker.specs.Faults.{IsWholeRun, IsRunUpTo, IsNoStep}

@@ -25,6 +25,7 @@ use Rattle.hla_federation.specs.Steps.Memory.{IsRefusedWith}
 use Rattle.hla_federation.specs.Steps.State.{state_of}
 use Rattle.hla_requests.specs.declared.members.NamedFederate.{NamedFederate}
 use Rattle.hla_components.specs.Executions.{Federations, no_federations, central_executions, with_created, with_destroyed, ending_unless, next_act, after_record, step_in, IsNext, AreNext}
+use Rattle.hla_script.specs.Following.{FollowNext}
 use Rattle.hla_script.specs.Keeping.{components_of, DoesNext, IsStepped, Standing, Holds, execution_after_destroy, IsDestroyed, Leads, IsActed, IsKept}
 use Rattle.hla_script.specs.Playing.{created_catalogue}
 use Rattle.hla_requests.specs.Members.{members_from, member_after}
@@ -182,6 +183,10 @@ keeps_more a rs old new ms ms' r kept acted =
       holds = acted.leads.follows x kept.holds;
       joins = joined ∙ rw kept.joins (sym (members_more rs [] r));
     }
+
+-- what is kept follows the next-state function
+pub follows_kept : (rs : List Record) (now : Standing) (ms : List NamedFederate) → IsKept rs now ms → FollowNext rs
+follows_kept rs now ms kept = (kept.executions, kept.next)
 
 -- at first nothing is kept
 pub keeps_nothing : IsKept [] (record { creates = 0; here = None }) []

@@ -72,11 +72,7 @@ pub record IsActed (act : Act) (old : Standing) (joined : List NamedFederate) (r
   pub members : joined_then ≡ member_after joined act r.outcome
   pub leads : Leads r old new
 
--- the records are, one after another, those of the next-state function from no executions
-abbrev pub FollowNext : List Record → Type 0
-FollowNext records = (x : Federations) × AreNext no_federations records x
-
--- the same, and they lead to this state and these members
+-- the records are, one after another, those of the next-state function from no executions, and they lead to this state and these members
 pub record IsKept (records : List Record) (now : Standing) (joined : List NamedFederate) : Type 0 where
   pub executions : Federations
   pub next : AreNext no_federations records executions

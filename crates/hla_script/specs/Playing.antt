@@ -25,6 +25,7 @@ use Rattle.hla_commands.specs.Script.{script_of, ParsesAs}
 use Rattle.hla_transcript.specs.Printed.{line_text}
 use Rattle.hla_requests.specs.Members.{members}
 use Rattle.hla_requests.specs.Requests.{request_of}
+use Rattle.hla_script.specs.Following.{FollowNext}
 
 -- ---- the record of a line
 -- a create holds the catalogue, but for that of an execution that is there, which is refused before the FED file is looked at
@@ -124,16 +125,19 @@ pub record IsPlayedAll (whole : Bool) (fed script : List ℕ) (old new : Option 
   pub remembered : whole ≡ true → AreRemembered from.played.outcomes
 
 -- ---- a play that was broken off
--- of how the first of these lines ends, if there is one, a beginning was written
+-- of how the first of these lines ends, if there is one, a beginning was written; the records with its own, if it makes one, follow the
+-- next-state function, so that even of it no made-up outcome is begun
 abbrev pub IsBegun : CatalogueValue → List Record → List Line → Option (List ℕ) → Option (List ℕ) → Type 0
 IsBegun c before [] old new = Appends old new []
-IsBegun c before (l ∷ ls) old new = (o : Outcome) × (added : List Record) × LineEnds c before l.command o added × ((n : ℕ) × Appends old new (take n (line_text c l.number o)))
+IsBegun c before (l ∷ ls) old new = (o : Outcome) × (added : List Record) × LineEnds c before l.command o added × FollowNext (before ++ added) × ((n : ℕ) × Appends old new (take n (line_text c l.number o)))
 
--- the first of these lines were played and written whole, and these records are theirs
+-- the first of these lines were played and written whole, and these records are theirs, and follow the next-state function: what was
+-- written is no less true for the break
 pub record IsPlayedUpTo (whole : Bool) (c : CatalogueValue) (lines : List Line) (old new : Option (List ℕ)) (records : List Record) (left : List Line) : Type 0 where
   pub done : List Line
   pub parts : lines ≡ done ++ left
   pub played : IsPlayedAs whole c done old new records
+  pub follows : FollowNext records
 
 -- lines were played and written whole, up to one of which nothing was written
 pub record IsLeftAt (whole : Bool) (c : CatalogueValue) (lines : List Line) (old new : Option (List ℕ)) : Type 0 where
@@ -171,7 +175,7 @@ StopsBy whole fed script old new stop.Write = IsBrokenOff whole fed script old n
 StopsBy whole fed script old new stop.Memory = IsBrokenOff whole fed script old new cut.Memory
 
 -- the FED file describes a catalogue, the script asks for these lines, and what was written is a beginning of what they print that are
--- played to their end
+-- played to their end, with records that follow the next-state function
 pub record IsBeginning (fed script : List ℕ) (old new : Option (List ℕ)) : Type 0 where
   pub catalogue : CatalogueValue
   pub lines : List Line
@@ -180,6 +184,7 @@ pub record IsBeginning (fed script : List ℕ) (old new : Option (List ℕ)) : T
   pub outcomes : List Outcome
   pub records : List Record
   pub plays : Plays catalogue [] lines outcomes records
+  pub follows : FollowNext records
   pub written : ℕ
   pub writes : Appends old new (take written (transcript catalogue lines outcomes))
 

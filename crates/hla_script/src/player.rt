@@ -181,11 +181,13 @@ pub fn play<W: Write>(
     ensures discoveries { IfOk result AreDiscoveredInTurn }
 
     // The first fault of the FED file, or else that of the script, with nothing written. Where a write failed or memory ran
-    // out, each line before is written whole, and of the next one a beginning where a write failed, else nothing.
+    // out, each line before is written whole, and of the next one a beginning where a write failed, else nothing; and what is
+    // written is as true as where all was played: the records of these lines follow the next-state function, too.
     ensures stopped { IfErr result (StopsBy false fed.now script.now (W.contents out.old.inner)
         (W.contents out.new.inner)) }
 
-    // So what is written then is a beginning of what these texts print where each write takes all.
+    // So what is written then is a beginning of what these texts print where each write takes all, with records that follow
+    // that function.
     ensures begun { IfErr result (BeginsBy fed.now script.now (W.contents out.old.inner)
         (W.contents out.new.inner)) }
 

@@ -4,7 +4,7 @@ use Rattle.std.proofs.lemmas.List.{take_more, take_all}
 use Rattle.hla_commands.specs.declared.lines.Line.{Line}
 use Rattle.hla_script.specs.Playing.{IsPlayedAs, IsLeftAt, IsLeftIn}
 use Rattle.hla_script.proofs.PlayLemmas.{played_nothing, played_more}
-use Rattle.hla_script.proofs.KeepLemmas.{keeps_nothing}
+use Rattle.hla_script.proofs.KeepLemmas.{keeps_nothing, follows_kept}
 use Rattle.hla_script.proofs.BreakLemmas.{left_at, left_first, left_in_line}
 use Rattle.hla_script.proofs.player.play_lines.Goals as goal
 
@@ -62,12 +62,12 @@ returns-in_default-clause-broken g c = left_first c.args.is_whole c.args.catalog
 pub returns-in_default-play_line-clause-broken : goal.returns-in_default-play_line-clause-broken
 returns-in_default-play_line-clause-broken g c =
     subst (λ (ls : List Line). IsLeftAt c.args.is_whole c.args.catalogue ls (g.W.Write.contents c.args.out.now.inner) (g.W.Write.contents c.loop-line.out.inner)) c.as_slice-line-items.ensures
-    (left_at c.args.is_whole c.args.catalogue c.as_slice-line-items.result.now c.loop-line.line-index c.loop-line.records.items _ _ c.loop-line.invariant.played)
+    (left_at c.args.is_whole c.args.catalogue c.as_slice-line-items.result.now c.loop-line.line-index c.loop-line.records.items _ _ c.loop-line.invariant.played (follows_kept _ _ _ c.loop-line.invariant.kept))
 
 pub returns-then-ends_play-clause-broken : goal.returns-then-ends_play-clause-broken
 returns-then-ends_play-clause-broken g c =
     subst (λ (ls : List Line). IsLeftAt c.args.is_whole c.args.catalogue ls (g.W.Write.contents c.args.out.now.inner) (g.W.Write.contents c.loop-line.out.inner)) c.as_slice-line-items.ensures
-    (left_at c.args.is_whole c.args.catalogue c.as_slice-line-items.result.now c.loop-line.line-index c.loop-line.records.items _ _ c.loop-line.invariant.played)
+    (left_at c.args.is_whole c.args.catalogue c.as_slice-line-items.result.now c.loop-line.line-index c.loop-line.records.items _ _ c.loop-line.invariant.played (follows_kept _ _ _ c.loop-line.invariant.kept))
 
 pub returns-in_default-write_whole-clause-broken : goal.returns-in_default-write_whole-clause-broken
 returns-in_default-write_whole-clause-broken g c =
@@ -78,4 +78,4 @@ returns-in_default-write_whole-clause-broken g c =
     let more : take (i + 1) items ≡ take i items ++ line ∷ [] = take_more items i line c.loop-line-test.true ∙ ap (λ (l : Line). take i items ++ l ∷ []) (sym c.line-item.is) in
     subst (λ (ls : List Line). IsLeftIn c.args.is_whole c.args.catalogue ls (g.W.Write.contents c.args.out.now.inner) (g.W.Write.contents c.write_whole.new.out.inner)) c.as_slice-line-items.ensures
     (left_in_line c.args.is_whole c.in-Ok-play_line.is_remembered c.args.catalogue c.loop-line.execution.catalogue items i line c.loop-line.records.items _ c.clear.new.self c.play_line.new.text c.as_slice.result.now _ _ _
-    kept.catalogue c.clear.ensures more kept.played c.in-Ok-play_line.ensures.answered c.as_slice.ensures c.in_default-write_whole.ensures.err)
+    kept.catalogue c.clear.ensures more kept.played (follows_kept _ _ _ kept.kept) c.in-Ok-play_line.ensures.answered (follows_kept _ _ _ c.in-Ok-play_line.ensures.kept) c.as_slice.ensures c.in_default-write_whole.ensures.err)
