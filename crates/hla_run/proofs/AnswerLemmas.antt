@@ -26,45 +26,56 @@ use Rattle.hla_players.specs.declared.player.Deed.TheVariants as deed
 use Rattle.hla_players.specs.declared.player.Player.{Player}
 use Rattle.hla_players.proofs.DeedLemmas.{answer_told}
 use Rattle.hla_outcomes.specs.declared.outcomes.LineOutcome.{LineOutcome}
-use Rattle.hla_run.specs.Recorded.{act_of_call, AddsAct, AddsCall, AddsTicks, AreAnsweredInTurn, AreEmptyTicks, ArePlacesBelow, ArePlacesRising, AreSpent, AreToldBelow, GivesUpLast, HasExtended, IsAnswerTo, IsCallAt, IsCallRecorded, IsRecordOf, IsToldTo, IsTranscriptIn, IsUnmade}
+use Rattle.hla_run.specs.Recorded.{act_of_call, AddsAct, AddsCall, AddsTicks, AreAnsweredInTurn, AreEmptyTicks, ArePlacesBelow, ArePlacesRising, AreSpent, AreToldBelow, GivesUpLast, HasExtended, IsAnswerTo, IsCallAt, IsCallRecorded, IsRecordOf, IsToldTo, IsUnmade}
 use Rattle.hla_run.specs.declared.life.Life.{Life}
-use Rattle.hla_run.proofs.RecordLemmas.{unmade_in}
 
 -- ---- in turn, where a call adds records
-module _ (c : CatalogueValue) (lines : List Line) (all wider : List Record) (execution : List ℕ) (f : ℕ) (name : List ℕ) (within : IsTranscriptIn wider all) (t : LineOutcome) (call : Call) (at : IsCallAt lines t.place name call) where
+module _ (c : CatalogueValue) (lines : List Line) (execution : List ℕ) (f : ℕ) (name : List ℕ) (t : LineOutcome) (call : Call) (at : IsCallAt lines t.place name call) where
   -- what is told before stays, where more records come behind
-  told_before : (u : LineOutcome) (us : List LineOutcome) (records more : List Record) → ((rest : List Record) → AreAnsweredInTurn c lines all execution f name rest us → AreAnsweredInTurn c lines wider execution f name (rest ++ more) (us ++ t ∷ []))
-      → AreAnsweredInTurn c lines all execution f name records (u ∷ us) → AreAnsweredInTurn c lines wider execution f name (records ++ more) (u ∷ (us ++ t ∷ []))
-  told_before u us records more again h = (
+  told_before : (u : LineOutcome) (us : List LineOutcome) (before records more : List Record)
+      → ((past rest : List Record) → past ++ rest ≡ before ++ records → AreAnsweredInTurn c lines past execution f name rest us → AreAnsweredInTurn c lines past execution f name (rest ++ more) (us ++ t ∷ [])) → AreAnsweredInTurn c lines before execution f name records (u ∷ us)
+      → AreAnsweredInTurn c lines before execution f name (records ++ more) (u ∷ (us ++ t ∷ []))
+  told_before u us before records more again h = (
     h.0,
     h.1,
     h.2,
     h.3,
     elim h.4 [
-      | inl made ↦ inl (made.0, made.1 ++ more, ap (λ (rs : List Record). rs ++ more) made.2 ∙ append_assoc h.1 (made.0 ∷ made.1) more, made.3, made.4, again made.1 made.5)
-      | inr none ↦ inr (none.0 ++ more, ap (λ (rs : List Record). rs ++ more) none.1 ∙ append_assoc h.1 none.0 more, unmade_in c wider all execution f h.0 u.outcome within none.2, again none.0 none.3)
+      | inl made ↦
+          let own = h.1 ++ made.0 ∷ [] in
+          let all : (before ++ own) ++ made.1 ≡ before ++ records = append_assoc before own made.1 ∙ ap (λ (rs : List Record). before ++ rs) (append_assoc h.1 (made.0 ∷ []) made.1 ∙ sym made.2) in
+          inl (made.0, made.1 ++ more, ap (λ (rs : List Record). rs ++ more) made.2 ∙ append_assoc h.1 (made.0 ∷ made.1) more, made.3, made.4, again (before ++ own) made.1 all made.5)
+      | inr none ↦
+          let all : (before ++ h.1) ++ none.0 ≡ before ++ records = append_assoc before h.1 none.0 ∙ ap (λ (rs : List Record). before ++ rs) (sym none.1) in
+          inr (none.0 ++ more, ap (λ (rs : List Record). rs ++ more) none.1 ∙ append_assoc h.1 none.0 more, none.2, again (before ++ h.1) none.0 all none.3)
     ],
   )
 
   module _ (spent : List Record) (is_spent : AreSpent c execution f call spent) where
-    turn_answered : (r : Record) (records : List Record) (told : List LineOutcome) → IsAnswerTo c execution f call (answer_given t.outcome) r → GivesUpLast c call t.outcome spent → AreAnsweredInTurn c lines all execution f name records told
-        → AreAnsweredInTurn c lines wider execution f name (records ++ (spent ++ r ∷ [])) (told ++ t ∷ [])
-    turn_answered r records [] own last h = (call, spent, at, is_spent, inl (r, [], ap (λ (rs : List Record). rs ++ (spent ++ r ∷ [])) h, own, last, refl))
-    turn_answered r records (u ∷ us) own last h = told_before u us records (spent ++ r ∷ []) (λ rest before. turn_answered r rest us own last before) h
+    turn_answered : (r : Record) (before records : List Record) (told : List LineOutcome) → IsAnswerTo c execution f call (answer_given t.outcome) r → GivesUpLast c call t.outcome spent → AreAnsweredInTurn c lines before execution f name records told
+        → AreAnsweredInTurn c lines before execution f name (records ++ (spent ++ r ∷ [])) (told ++ t ∷ [])
+    turn_answered r before records [] own last h = (call, spent, at, is_spent, inl (r, [], ap (λ (rs : List Record). rs ++ (spent ++ r ∷ [])) h, own, last, refl))
+    turn_answered r before records (u ∷ us) own last h = told_before u us before records (spent ++ r ∷ []) (λ past rest same so_far. turn_answered r past rest us own last so_far) h
 
-    turn_unmade : (records : List Record) (told : List LineOutcome) → IsUnmade c wider execution f call t.outcome → AreAnsweredInTurn c lines all execution f name records told
-        → AreAnsweredInTurn c lines wider execution f name (records ++ spent) (told ++ t ∷ [])
-    turn_unmade records [] unmade h = (call, spent, at, is_spent, inr ([], ap (λ (rs : List Record). rs ++ spent) h ∙ sym (append-nil spent), unmade, refl))
-    turn_unmade records (u ∷ us) unmade h = told_before u us records spent (λ rest before. turn_unmade rest us unmade before) h
+    -- by the records until then, which are all that the caller has
+    turn_unmade : (before records : List Record) (told : List LineOutcome) → IsUnmade c ((before ++ records) ++ spent) execution f call t.outcome → AreAnsweredInTurn c lines before execution f name records told
+        → AreAnsweredInTurn c lines before execution f name (records ++ spent) (told ++ t ∷ [])
+    turn_unmade before records [] unmade h =
+        let here : (before ++ records) ++ spent ≡ before ++ spent = append_assoc before records spent ∙ ap (λ (rs : List Record). before ++ (rs ++ spent)) h in
+        (call, spent, at, is_spent, inr ([], ap (λ (rs : List Record). rs ++ spent) h ∙ sym (append-nil spent), subst (λ (rs : List Record). IsUnmade c rs execution f call t.outcome) here unmade, refl))
+    turn_unmade before records (u ∷ us) unmade h =
+        told_before u us before records spent (λ past rest same so_far. turn_unmade past rest us (subst (λ (rs : List Record). IsUnmade c (rs ++ spent) execution f call t.outcome) (sym same) unmade) so_far) h
 
 -- one line more, by what its call has added
-pub turn_added : (c : CatalogueValue) (lines : List Line) (execution : List ℕ) (f : ℕ) (name : List ℕ) (old new : Caller) (told : List LineOutcome) (t : LineOutcome) (call : Call) → IsTranscriptIn new.transcript old.transcript
-    → AreAnsweredInTurn c lines old.transcript execution f name old.transcript told → IsCallAt lines t.place name call → AddsCall c execution f call t.outcome old new → AreAnsweredInTurn c lines new.transcript execution f name new.transcript (told ++ t ∷ [])
-turn_added c lines execution f name old new told t call within before at adds =
-    let InTurn : List Record → Type 0 = λ rs. AreAnsweredInTurn c lines new.transcript execution f name rs (told ++ t ∷ []) in
+pub turn_added : (c : CatalogueValue) (lines : List Line) (execution : List ℕ) (f : ℕ) (name : List ℕ) (old new : Caller) (told : List LineOutcome) (t : LineOutcome) (call : Call) → AreAnsweredInTurn c lines [] execution f name old.transcript told
+    → IsCallAt lines t.place name call → AddsCall c execution f call t.outcome old new → AreAnsweredInTurn c lines [] execution f name new.transcript (told ++ t ∷ [])
+turn_added c lines execution f name old new told t call before at adds =
+    let InTurn : List Record → Type 0 = λ rs. AreAnsweredInTurn c lines [] execution f name rs (told ++ t ∷ []) in
     elim adds.2 [
-      | inl made ↦ subst InTurn (sym made.1) (turn_answered c lines old.transcript new.transcript execution f name within t call at adds.0 adds.1 made.0 old.transcript told made.2 made.3 before)
-      | inr none ↦ subst InTurn (sym none.0) (turn_unmade c lines old.transcript new.transcript execution f name within t call at adds.0 adds.1 old.transcript told none.1 before)
+      | inl made ↦ subst InTurn (sym made.1) (turn_answered c lines execution f name t call at adds.0 adds.1 made.0 [] old.transcript told made.2 made.3 before)
+      | inr none ↦
+          let unmade : IsUnmade c (old.transcript ++ adds.0) execution f call t.outcome = subst (λ (rs : List Record). IsUnmade c rs execution f call t.outcome) none.0 none.1 in
+          subst InTurn (sym none.0) (turn_unmade c lines execution f name t call at adds.0 adds.1 [] old.transcript told unmade before)
     ]
 
 -- ---- what an act has added

@@ -109,8 +109,8 @@ line_told read handed execution (command.Join name) out old new h = λ c strange
   | inl told ↦ inl (execution, told)
   | inr few ↦ inr few.2
 ]
-line_told read handed execution (command.Carry from to) out old new h = λ c stranger. tt
-line_told read handed execution (command.Announce name) out old new h = λ c stranger. tt
+line_told read handed execution (command.Carry from to) out old new h = absurd h.1
+line_told read handed execution (command.Announce name) out old new h = absurd h.1
 line_told read handed execution (command.Federate name call) out old new h = absurd h.1
 
 -- ---- in turn

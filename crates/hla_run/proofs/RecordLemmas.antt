@@ -39,7 +39,7 @@ answer_in history records execution a given within h = record { found = h.found;
 resigned_in : (history records : List Record) (execution : List ℕ) (f : ℕ) → IsTranscriptIn history records → IsResignedBy records execution f → IsResignedBy history execution f
 resigned_in history records execution f within h = (h.0, answer_in history records execution (act.Step (step.Call f (service.Resign h.0))) (Ok answer.Done) within h.1)
 
-pub unmade_in : (c : CatalogueValue) (history records : List Record) (execution : List ℕ) (f : ℕ) (call : Call) (out : Outcome) → IsTranscriptIn history records → IsUnmade c records execution f call out → IsUnmade c history execution f call out
+unmade_in : (c : CatalogueValue) (history records : List Record) (execution : List ℕ) (f : ℕ) (call : Call) (out : Outcome) → IsTranscriptIn history records → IsUnmade c records execution f call out → IsUnmade c history execution f call out
 unmade_in c history records execution f call out within h = (
   h.0,
   h.1,
@@ -120,8 +120,8 @@ line_in : (c : CatalogueValue) (history records : List Record) (stranger : List 
 line_in c history records stranger command.Create out within h = (h.0, office_in history records (act.Create h.0) out within h.1)
 line_in c history records stranger command.Destroy out within h = office_in history records act.Destroy out within h
 line_in c history records stranger (command.Join name) out within h = joining_in history records name out within h
-line_in c history records stranger (command.Carry from to) out within h = tt
-line_in c history records stranger (command.Announce name) out within h = tt
+line_in c history records stranger (command.Carry from to) out within h = h
+line_in c history records stranger (command.Announce name) out within h = h
 line_in c history records stranger (command.Federate name call) out within h = named_in c history records stranger name call out within h
 
 -- what is told of a stranger needs no record
@@ -291,7 +291,7 @@ module _ {L B P F : Type 0} where
   fresh_recorded c lines execution life fresh = (
     fresh.0,
     subst (λ (told : List LineOutcome). AreOwnTellings c lines (caller_of life.player).transcript execution life.number life.name told) (sym fresh.1) (λ k d below. absurd (omega (arith, below))),
-    inr (subst (λ (told : List LineOutcome). AreAnsweredInTurn c lines (caller_of life.player).transcript execution life.number life.name (caller_of life.player).transcript told) (sym fresh.1) fresh.2),
+    inr (subst (λ (told : List LineOutcome). AreAnsweredInTurn c lines [] execution life.number life.name (caller_of life.player).transcript told) (sym fresh.1) fresh.2),
   )
 
   -- ---- who has joined

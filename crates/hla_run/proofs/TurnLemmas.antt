@@ -1,6 +1,6 @@
 -- What is told of a federate's lines is answered in turn, through what all leave behind.
 use Rattle.std.proofs.Common.{◌≡◌, ℕ, zero, suc, ◌<◌, List, [], ◌∷◌, ◌++◌, length, get_or, true, false, Option, None, Some, ◌⊎◌, inl, inr, sym, ap, subst, ◌∙◌, arith}
-use Rattle.std.specs.Prelude.{◌||◌, slice_index_or}
+use Rattle.std.specs.Prelude.{◌||◌, codes, slice_index_or}
 use Rattle.std.specs.List.{All, Contains}
 use Rattle.std.specs.Str.{bytes_eq}
 use Rattle.std.proofs.lemmas.Bool.{both_ways, cases_Bool, cases_eq, or_cases}
@@ -18,25 +18,10 @@ use Rattle.hla_callers.specs.Close.{Agrees}
 use Rattle.hla_players.specs.Deeds.{caller_of}
 use Rattle.hla_outcomes.specs.Running.{with_line_noted, with_lines_noted}
 use Rattle.hla_outcomes.specs.declared.outcomes.LineOutcome.{LineOutcome}
-use Rattle.hla_run.specs.Recorded.{AreAnsweredInTurn, GathersCallers, GathersInTurn, HasJoined, IsCallerInTurn, IsCallerKnown, IsLifeRecorded, IsNameInTurn, IsOwnTelling, IsToldTo, IsTranscriptIn, LeavesBehind, LeavesPair, has_life}
+use Rattle.hla_run.specs.Recorded.{GathersCallers, GathersInTurn, HasJoined, IsCallerInTurn, IsCallerKnown, IsLifeRecorded, IsNameInTurn, IsOwnTelling, IsToldTo, LeavesBehind, LeavesPair, has_life}
 use Rattle.hla_run.specs.declared.life.Life.{Life}
-use Rattle.hla_run.proofs.RecordLemmas.{noted_cases, noted_first, noted_same, pair_behind, unmade_in}
+use Rattle.hla_run.proofs.RecordLemmas.{noted_cases, noted_first, noted_same, pair_behind}
 use Rattle.hla_run.proofs.StrangerLemmas.{life_or}
-
--- ---- in turn among more records
-pub turn_in : (c : CatalogueValue) (lines : List Line) (wider all : List Record) (execution : List ℕ) (f : ℕ) (name : List ℕ) (records : List Record) (told : List LineOutcome) → IsTranscriptIn wider all → AreAnsweredInTurn c lines all execution f name records told
-    → AreAnsweredInTurn c lines wider execution f name records told
-turn_in c lines wider all execution f name records [] within h = h
-turn_in c lines wider all execution f name records (t ∷ ts) within h = (
-  h.0,
-  h.1,
-  h.2,
-  h.3,
-  elim h.4 [
-    | inl made ↦ inl (made.0, made.1, made.2, made.3, made.4, turn_in c lines wider all execution f name made.1 ts within made.5)
-    | inr none ↦ inr (none.0, none.1, unmade_in c wider all execution f h.0 t.outcome within none.2, turn_in c lines wider all execution f name none.0 ts within none.3)
-  ],
-)
 
 -- ---- outcomes by place
 first_or : (t u : LineOutcome) (ts : List LineOutcome) (k : ℕ) → k < length (t ∷ ts) → slice_index_or (t ∷ ts) k u ≡ u → (t ≡ u) ⊎ Contains ts u
@@ -82,19 +67,18 @@ module _ {L B P F : Type 0} where
     All-contains Q (lives ++ life ∷ []) life all (Contains-push lives life),
   )
 
-  own_caller : (c : CatalogueValue) (lines : List Line) (execution : List ℕ) (history : List Record) (life : Life L B P F) → life.lacks_memory ≡ false → IsTranscriptIn history (caller_of life.player).transcript → Agrees history (caller_of life.player)
-      → IsLifeRecorded c lines execution life → IsToldTo lines (length lines) life → HasJoined history execution life.name life.number → IsCallerInTurn c lines history life.name (caller_of life.player) life.told.items
-  own_caller c lines execution history life whole within agrees recorded told joined =
-      let transcript = (caller_of life.player).transcript in
-      let turns : AreAnsweredInTurn c lines transcript execution life.number life.name transcript life.told.items = elim recorded.2 [ inl lacks ↦ absurd (both_ways life.lacks_memory whole lacks) | inr own ↦ own ] in
-      record {
-        execution = execution;
-        federate = life.number;
-        joined = joined;
-        agrees = agrees;
-        rising = told.0;
-        in_turn = turn_in c lines history transcript execution life.number life.name transcript life.told.items within turns;
-      }
+  own_caller : (c : CatalogueValue) (lines : List Line) (execution : List ℕ) (history : List Record) (life : Life L B P F) → execution ≡ codes "play" → life.lacks_memory ≡ false → Agrees history (caller_of life.player) → IsLifeRecorded c lines execution life
+      → IsToldTo lines (length lines) life → HasJoined history execution life.name life.number → IsCallerInTurn c lines history life.name (caller_of life.player) life.told.items
+  own_caller c lines execution history life named whole agrees recorded told joined = record {
+    execution = execution;
+    named = named;
+    federate = life.number;
+    joined = joined;
+    agrees = agrees;
+    rising = told.0;
+    below = told.1;
+    in_turn = elim recorded.2 [ inl lacks ↦ absurd (both_ways life.lacks_memory whole lacks) | inr own ↦ own ];
+  }
 
   own_turn : (c : CatalogueValue) (lines : List Line) (history : List Record) (life : Life L B P F) (mid new : List (Option Outcome)) → new ≡ with_lines_noted mid life.told.items → life.lacks_memory ≡ false
       → IsCallerInTurn c lines history life.name (caller_of life.player) life.told.items → IsToldTo lines (length lines) life → IsNameInTurn c lines history new life.name
@@ -135,7 +119,7 @@ module _ {L B P F : Type 0} where
 
   pub turns_more : (lives : List (Life L B P F)) (life : Life L B P F) (some all : List Leaver) (mid new : List (Option Outcome)) → GathersInTurn lives some mid → new ≡ with_lines_noted mid life.told.items → life.lacks_memory ≡ false
       → LeavesBehind some (caller_of life.player) all → GathersInTurn (lives ++ life ∷ []) all new
-  turns_more lives life some all mid new before noted whole behind = λ c lines execution history recorded told joined lefts agree name has.
+  turns_more lives life some all mid new before noted whole behind = λ c lines execution history named recorded told joined lefts agree name has.
       let left = (behind history).0 lefts in
       let agreed = (behind history).1 agree in
       let records = split_last (IsLifeRecorded c lines execution) lives life recorded in
@@ -143,10 +127,10 @@ module _ {L B P F : Type 0} where
       let joins = split_last (λ (x : Life L B P F). HasJoined history execution x.name x.number) lives life joined in
       elim (cases_Bool (bytes_eq life.name name)) [
         | inl same ↦
-            let here = own_turn c lines history life mid new noted whole (own_caller c lines execution history life whole left.1 agreed.1 records.1 tells.1 joins.1) tells.1 in
+            let here = own_turn c lines history life mid new noted whole (own_caller c lines execution history life named whole agreed.1 records.1 tells.1 joins.1) tells.1 in
             subst (λ (n : List ℕ). IsNameInTurn c lines history new n) ((bytes_eq-Decides life.name name).0 same) here
         | inr other ↦
-            let was = before c lines execution history records.0 tells.0 joins.0 left.0 agreed.0 name (life_before lives life name other has) in
+            let was = before c lines execution history named records.0 tells.0 joins.0 left.0 agreed.0 name (life_before lives life name other has) in
             other_turn c lines execution history life mid new name noted other records.1 was
       ]
 
@@ -155,7 +139,7 @@ module _ {L B P F : Type 0} where
 
   -- ---- whose records they are
   pub callers_more : (lives : List (Life L B P F)) (life : Life L B P F) (some all : List Leaver) → GathersCallers lives some → life.lacks_memory ≡ false → LeavesPair some (caller_of life.player) all → GathersCallers (lives ++ life ∷ []) all
-  callers_more lives life some all before whole pair = λ c lines execution history recorded told joined lefts agree.
+  callers_more lives life some all before whole pair = λ c lines execution history named recorded told joined lefts agree.
       let behind = pair_behind some all (caller_of life.player) pair in
       let left = (behind history).0 lefts in
       let agreed = (behind history).1 agree in
@@ -163,9 +147,9 @@ module _ {L B P F : Type 0} where
       let tells = split_last (IsToldTo lines (length lines)) lives life told in
       let joins = split_last (λ (x : Life L B P F). HasJoined history execution x.name x.number) lives life joined in
       let Known : Leaver → Type 0 = λ (l : Leaver). IsCallerKnown c lines history l.caller in
-      let own : IsCallerKnown c lines history (caller_of life.player) = inl (life.name, life.told.items, own_caller c lines execution history life whole left.1 agreed.1 records.1 tells.1 joins.1) in
+      let own : IsCallerKnown c lines history (caller_of life.player) = inl (life.name, life.told.items, own_caller c lines execution history life named whole agreed.1 records.1 tells.1 joins.1) in
       let first : Known pair.0 = subst (λ (x : Caller). IsCallerKnown c lines history x) (sym pair.3) own in
-      let some_known : All Known some = before c lines execution history records.0 tells.0 joins.0 left.0 agreed.0 in
+      let some_known : All Known some = before c lines execution history named records.0 tells.0 joins.0 left.0 agreed.0 in
       let second : Known pair.1 = inr pair.4 in
       subst (λ (ls : List Leaver). All Known ls) (sym pair.2) (All-push Known (some ++ pair.0 ∷ []) pair.1 (All-push Known some pair.0 some_known first) second)
 

@@ -1,5 +1,5 @@
 -- The whole history of a run: what the infrastructure itself did, line by line, and who did the rest
-use Rattle.std.specs.Prelude.{◌≡◌, ◌⊎◌, ◌++◌, ◌∷◌, ◌+◌, ◌<◌, ◌≤◌, ℕ, List, [], length, Bool, true, false, Option, None, Some, slice_get, slice_index_or}
+use Rattle.std.specs.Prelude.{◌≡◌, ◌⊎◌, ◌++◌, ◌∷◌, ◌+◌, ◌<◌, ◌≤◌, ℕ, List, [], length, Bool, true, false, Option, None, Some, codes, slice_get, slice_index_or}
 use Rattle.std.specs.List.{All, Contains}
 use Rattle.hla_base.specs.Limits.{max_callers}
 use Rattle.hla_base.specs.declared.fault.Fault.TheVariants as fault
@@ -82,9 +82,11 @@ abbrev pub DestroysInTurn : List Line → List ℕ → Caller → Caller → Lis
 DestroysInTurn lines execution old new outcomes =
     (read : Option CatalogueValue) (handed : ℕ) → (more : List Record) × (new.transcript ≡ old.transcript ++ more) × AreDoneBelow IsDestroyingLine read handed lines execution (length lines) more outcomes
 
--- all records of the infrastructure itself answer its lines, each by another one: those that create and join in their order, then those that destroy
+-- all records of the infrastructure itself answer its lines, each by another one, in the execution of the script: those that create and join in
+-- their order, then those that destroy
 pub record IsOfficeInTurn (read : Option CatalogueValue) (lines : List Line) (history : List Record) (outcomes : List (Option Outcome)) : Type 0 where
   pub execution : List ℕ
+  pub named : execution ≡ codes "play"
   pub first : List Record
   pub last : List Record
   pub all : records_by 0 history ≡ first ++ last

@@ -1,5 +1,5 @@
 -- What is told of the lines of federates, by the records of the history
-use Rattle.std.specs.Prelude.{◌≡◌, ◌⊎◌, ◌++◌, ◌∷◌, ◌+◌, ◌<◌, ℕ, List, [], length, Bool, true, not, Option, None, Some, Result, Ok, Err, slice_get, slice_index_or}
+use Rattle.std.specs.Prelude.{◌≡◌, ◌⊎◌, ◌++◌, ◌∷◌, ◌+◌, ◌<◌, ℕ, List, [], length, Bool, true, not, Option, None, Some, Result, Ok, Err, codes, slice_get, slice_index_or}
 use Rattle.hla_base.specs.declared.fault.Fault.{Fault}
 use Rattle.hla_base.specs.declared.fault.Fault.TheVariants as fault
 use Rattle.std.specs.List.{All, Contains, list_any}
@@ -108,14 +108,14 @@ IsOfficeRecorded records a out = (execution : List ℕ) × IsActRecorded records
 abbrev pub IsJoiningRecorded : List Record → List ℕ → Outcome → Type 0
 IsJoiningRecorded records name out = IsOfficeRecorded records (act.Step (step.Join name)) out ⊎ (out ≡ outcome.Refused fault.LimitReached)
 
--- a line that is done is told as a record answers, or why there is none, where these names are strangers'; lines that carry or announce are
--- not done
+-- a line that is done is told as a record answers, or why there is none, where these names are strangers'; of lines that carry or announce
+-- nothing is told
 abbrev pub IsLineRecorded : CatalogueValue → List Record → (List ℕ → Bool) → Command → Outcome → Type 0
 IsLineRecorded c records stranger command.Create out = (read : Option CatalogueValue) × IsOfficeRecorded records (act.Create read) out
 IsLineRecorded c records stranger command.Destroy out = IsOfficeRecorded records act.Destroy out
 IsLineRecorded c records stranger (command.Join name) out = IsJoiningRecorded records name out
-IsLineRecorded c records stranger (command.Carry from to) out = Unit {0}
-IsLineRecorded c records stranger (command.Announce name) out = Unit {0}
+IsLineRecorded c records stranger (command.Carry from to) out = ⊥
+IsLineRecorded c records stranger (command.Announce name) out = ⊥
 IsLineRecorded c records stranger (command.Federate name call) out = IsNamedCallRecorded c records stranger name call out
 
 -- ---- what is told of lines
@@ -182,14 +182,14 @@ IsLastTick out spent = out ≡ outcome.Done (answer.Ticked None) → length spen
 abbrev pub GivesUpLast : CatalogueValue → Call → Outcome → List Record → Type 0
 GivesUpLast c call out spent = service_of c call ≡ Ok None → IsLastTick out spent
 
--- these records are what lines of this name are answered by, in the order of what is told of them, each by another one behind what it has
--- spent; or a call was not made, by all records
+-- behind these records of a caller, those that follow are what lines of this name are answered by, in the order of what is told of them,
+-- each by another one behind what it has spent; or a call was not made, by the caller's records until then alone
 abbrev pub AreAnsweredInTurn : CatalogueValue → List Line → List Record → List ℕ → ℕ → List ℕ → List Record → List LineOutcome → Type 0
-AreAnsweredInTurn c lines all execution f name records [] = records ≡ []
-AreAnsweredInTurn c lines all execution f name records (t ∷ ts) =
+AreAnsweredInTurn c lines before execution f name records [] = records ≡ []
+AreAnsweredInTurn c lines before execution f name records (t ∷ ts) =
     (call : Call) × (spent : List Record) × IsCallAt lines t.place name call × AreSpent c execution f call spent
-    × (((r : Record) × (rest : List Record) × (records ≡ spent ++ r ∷ rest) × IsAnswerTo c execution f call (answer_given t.outcome) r × GivesUpLast c call t.outcome spent × AreAnsweredInTurn c lines all execution f name rest ts)
-    ⊎ ((rest : List Record) × (records ≡ spent ++ rest) × IsUnmade c all execution f call t.outcome × AreAnsweredInTurn c lines all execution f name rest ts))
+    × (((r : Record) × (rest : List Record) × (records ≡ spent ++ r ∷ rest) × IsAnswerTo c execution f call (answer_given t.outcome) r × GivesUpLast c call t.outcome spent × AreAnsweredInTurn c lines (before ++ (spent ++ r ∷ [])) execution f name rest ts)
+    ⊎ ((rest : List Record) × (records ≡ spent ++ rest) × IsUnmade c (before ++ spent) execution f call t.outcome × AreAnsweredInTurn c lines (before ++ spent) execution f name rest ts))
 
 -- the caller has added to its transcript what it has spent, and a record that answers the act; or that has none
 abbrev pub AddsAct : List ℕ → Act → Outcome → List Record → Caller → Caller → Type 0
@@ -221,14 +221,17 @@ abbrev pub AreToldBelow : List Line → List ℕ → ℕ → List LineOutcome �
 AreToldBelow lines name k told =
     (place : ℕ) (l : Line) (call : Call) → place < k → slice_get lines place ≡ Some l → l.command ≡ command.Federate name call → (t : LineOutcome) × Contains told t × (t.place ≡ place)
 
--- all records of a caller in the history answer what it told of lines of this name, in turn: those of a federate that has joined under it
+-- all records of a caller in the history answer what it told of lines of this name, in turn: those of a federate that has joined under it, in
+-- the execution of the script
 pub record IsCallerInTurn (c : CatalogueValue) (lines : List Line) (history : List Record) (name : List ℕ) (caller : Caller) (told : List LineOutcome) : Type 0 where
   pub execution : List ℕ
+  pub named : execution ≡ codes "play"
   pub federate : ℕ
   pub joined : HasJoined history execution name federate
   pub agrees : Agrees history caller
   pub rising : ArePlacesRising told
-  pub in_turn : AreAnsweredInTurn c lines history execution federate name caller.transcript told
+  pub below : ArePlacesBelow (length lines) told
+  pub in_turn : AreAnsweredInTurn c lines [] execution federate name caller.transcript told
 
 -- what is told of the lines of this name is what such a caller told
 pub record IsNameInTurn (c : CatalogueValue) (lines : List Line) (history : List Record) (outcomes : List (Option Outcome)) (name : List ℕ) : Type 0 where
@@ -259,7 +262,7 @@ IsPlayerAs execution f (player.Gone l) = IsResignedBy l.caller.transcript execut
 abbrev pub IsLifeRecorded : {L B P F : Type 0} → CatalogueValue → List Line → List ℕ → Life L B P F → Type 0
 IsLifeRecorded c lines execution life =
     IsPlayerAs execution life.number life.player × AreOwnTellings c lines (caller_of life.player).transcript execution life.number life.name life.told.items
-    × ((life.lacks_memory ≡ true) ⊎ AreAnsweredInTurn c lines (caller_of life.player).transcript execution life.number life.name (caller_of life.player).transcript life.told.items)
+    × ((life.lacks_memory ≡ true) ⊎ AreAnsweredInTurn c lines [] execution life.number life.name (caller_of life.player).transcript life.told.items)
 
 -- a federate has told of each of its lines before a place, in their order, unless it lacks memory
 abbrev pub IsToldTo : {L B P F : Type 0} → List Line → ℕ → Life L B P F → Type 0
@@ -358,8 +361,8 @@ GathersCalls lives old new = (c : CatalogueValue) (lines : List Line) (execution
 -- what lives told of their lines is answered in turn, by what they left behind
 abbrev pub GathersInTurn : {L B P F : Type 0} → List (Life L B P F) → List Leaver → List (Option Outcome) → Type 0
 GathersInTurn lives lefts new =
-    (c : CatalogueValue) (lines : List Line) (execution : List ℕ) (history : List Record) → All (IsLifeRecorded c lines execution) lives → All (IsToldTo lines (length lines)) lives → AreJoined history execution lives → AreTranscriptsIn history lefts
-    → AgreeAll history lefts → (name : List ℕ) → has_life lives name ≡ true → IsNameInTurn c lines history new name
+    (c : CatalogueValue) (lines : List Line) (execution : List ℕ) (history : List Record) → execution ≡ codes "play" → All (IsLifeRecorded c lines execution) lives → All (IsToldTo lines (length lines)) lives → AreJoined history execution lives
+    → AreTranscriptsIn history lefts → AgreeAll history lefts → (name : List ℕ) → has_life lives name ≡ true → IsNameInTurn c lines history new name
 
 -- whose records these are is known: a federate's, which answer its lines in turn, or a courier's
 abbrev pub IsCallerKnown : CatalogueValue → List Line → List Record → Caller → Type 0
@@ -368,5 +371,5 @@ IsCallerKnown c lines history caller = ((name : List ℕ) × (told : List LineOu
 -- of all that was left behind it is known whose it is
 abbrev pub GathersCallers : {L B P F : Type 0} → List (Life L B P F) → List Leaver → Type 0
 GathersCallers lives lefts =
-    (c : CatalogueValue) (lines : List Line) (execution : List ℕ) (history : List Record) → All (IsLifeRecorded c lines execution) lives → All (IsToldTo lines (length lines)) lives → AreJoined history execution lives → AreTranscriptsIn history lefts
-    → AgreeAll history lefts → All (λ (l : Leaver). IsCallerKnown c lines history l.caller) lefts
+    (c : CatalogueValue) (lines : List Line) (execution : List ℕ) (history : List Record) → execution ≡ codes "play" → All (IsLifeRecorded c lines execution) lives → All (IsToldTo lines (length lines)) lives → AreJoined history execution lives
+    → AreTranscriptsIn history lefts → AgreeAll history lefts → All (λ (l : Leaver). IsCallerKnown c lines history l.caller) lefts

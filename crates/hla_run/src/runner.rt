@@ -272,12 +272,14 @@ pub fn run_scripts<
 
     // What was written of a line is what a record of the history answers: of a federate's line, the record of the act that it
     // asks the federate for which has joined under its name, by another record of the same execution; of a line that creates,
-    // destroys or joins, the record of that. Or it is refused without a record, for one of the reasons that `IsLineRecorded` names:
-    // a federate's line as of one that is not joined only where it has resigned, by another record, or where no line that joins
-    // under its name is told to have joined one. All records of a federate in the history answer its lines, each another one, in
-    // the order of the lines, but for ticks with nothing that a line which ticks has spent before it was answered: 999 at most, and
-    // that a tick gave nothing is told of the thousandth alone. All records of the infrastructure itself answer lines, each another
-    // one: those that create and join in their order, and then those that destroy. All others are announcements and carries.
+    // destroys or joins, the record of that; of a line that carries or announces nothing is written. Or it is refused without a
+    // record, for one of the reasons that `IsLineRecorded` names: a federate's line as of one that is not joined only where it has
+    // resigned, by the record of a line before it, or where no line that joins under its name is told to have joined one. All
+    // records of a federate in the history answer lines of the script that are its own, each another one, in the order of the
+    // lines, but for ticks with nothing that a line which ticks has spent before it was answered: 999 at most, and that a tick gave
+    // nothing is told of the thousandth alone. All records of the infrastructure itself answer lines, each another one: those that
+    // create and join in their order, and then those that destroy. Both are of the execution `play`. All others are announcements
+    // and carries.
     ensures recorded { IfOk result (λ r. IsRunRecorded r.closed fed.now script.now
         (W.contents out.old.inner) (W.contents out.new.inner)) }
 

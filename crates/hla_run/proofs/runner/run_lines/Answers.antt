@@ -1,5 +1,5 @@
 use Rattle.std.proofs.Common.{◌≡◌, ◌<◌, ℕ, ◌+◌, List, Bool, true, false, Option, None, length, get_or, sym, subst, ◌∙◌, ap, arith}
-use Rattle.std.specs.Prelude.{slice_index_or}
+use Rattle.std.specs.Prelude.{codes, slice_index_or}
 use Rattle.std.specs.List.{All}
 use Rattle.hla_history.specs.Creating.{catalogue_from}
 use Rattle.hla_machine.specs.declared.step.Outcome.{Outcome}
@@ -22,6 +22,7 @@ returns-then-are_of_all-clause-recorded g c = λ history lefts agree office here
     let lines = c.args.lines.now in
     let most = joins lines + joins lines in
     let execution = c.in_ok-execution.execution in
+    let played : execution ≡ codes "play" = c.in_ok-execution.ensures.ok in
     let lives = c.in_ok-lives.lives.items in
     let seen = c.as_slice.result.now in
     let stranger : List ℕ → Bool = is_stranger seen in
@@ -67,9 +68,9 @@ returns-then-are_of_all-clause-recorded g c = λ history lefts agree office here
     subst (λ (ls : List (Life g.row.L.Denot g.row.B.Denot g.row.P.Denot g.row.F.Denot)). has_life ls name ≡ true) c.as_slice.ensures.value (known_life seen name known) in
     let many : length c.in-Ok.lives.items ≡ length lives = omega (arith, c.in-Ok.ensures.len) in
     let has = named_all lives c.in-Ok.lives.items name many same_names first in
-    turn_kept catalogue lines history c.gather_all.new.outcomes c.destroy.new.outcomes name c.destroy.ensures.calls (c.in_ok-lefts.ensures.turns catalogue lines execution history lived whole named lefts agree name has) in
+    turn_kept catalogue lines history c.gather_all.new.outcomes c.destroy.new.outcomes name c.destroy.ensures.calls (c.in_ok-lefts.ensures.turns catalogue lines execution history played lived whole named lefts agree name has) in
     let opening = c.in_ok-lives.ensures.office c.requires.handed c.requires.office in
-    let known = c.in_ok-lefts.ensures.callers catalogue lines execution history lived whole named lefts agree in
+    let known = c.in_ok-lefts.ensures.callers catalogue lines execution history played lived whole named lefts agree in
     record {
       stranger = stranger;
       recorded = c.destroy.ensures.recorded catalogue history stranger own told;
@@ -77,6 +78,7 @@ returns-then-are_of_all-clause-recorded g c = λ history lefts agree office here
       in_turn = turns;
       office = record {
         execution = execution;
+        named = played;
         first = c.«open».new.rti.own.transcript;
         last = closing.0;
         all = sym office ∙ closing.1;

@@ -1,4 +1,4 @@
-use Rattle.std.proofs.Common.{◌≡◌, List, ◌∙◌, refl, sym, ap, subst, inl, inr, ⊎_elim, true, false}
+use Rattle.std.proofs.Common.{◌≡◌, List, [], ◌∙◌, refl, sym, ap, subst, inl, inr, ⊎_elim, true, false}
 use Rattle.std.specs.Prelude.{not}
 use Rattle.std.specs.Result.{is_ok}
 use Rattle.std.proofs.lemmas.Bool.{cases_Bool, cond-true, cond-false}
@@ -30,7 +30,7 @@ returns-clause-recorded g c = λ execution recorded.
     elim c.if-lacks_memory.branch [ then-lacks_memory w ↦ w.result-is ∙ w.if-lacks_memory.true | else-lacks_memory w ↦ w.result-is ∙ ap not (c.is_ok-is_kept.ensures.value ∙ n) ] in
     let keeps : life.lacks_memory ≡ true → c.if-lacks_memory.result ≡ true = λ lacks.
     elim c.if-lacks_memory.branch [ then-lacks_memory w ↦ w.result-is ∙ w.if-lacks_memory.true | else-lacks_memory w ↦ (let clash : false ≡ true = sym w.if-lacks_memory.false ∙ lacks in absurd (cc)) ] in
-    let InTurn : List LineOutcome → Type 0 = λ all. AreAnsweredInTurn catalogue lines now execution life.number life.name now all in
+    let InTurn : List LineOutcome → Type 0 = λ all. AreAnsweredInTurn catalogue lines [] execution life.number life.name now all in
     let Recorded : List LineOutcome → Type 0 = λ all. AreOwnTellings catalogue lines now execution life.number life.name all in (
       c.do_call-player.ensures.same execution life.number recorded.0,
       ⊎_elim
@@ -40,7 +40,7 @@ returns-clause-recorded g c = λ execution recorded.
       elim recorded.2 [
         | inl lacks ↦ inl (keeps lacks)
         | inr turns ↦
-            let added = turn_added catalogue lines execution life.number life.name old new life.told.items told c.args.call.now within turns c.requires adds in
+            let added = turn_added catalogue lines execution life.number life.name old new life.told.items told c.args.call.now turns c.requires adds in
             elim (cases_Bool (is_ok c.push.result)) [ inl y ↦ inr (subst InTurn (sym (c.push.ensures.items ∙ cond-true _ _ _ y)) added) | inr n ↦ inl (lacking n) ]
       ],
     )
