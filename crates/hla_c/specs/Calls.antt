@@ -1,5 +1,5 @@
 -- What a call from a C program does to what its handle stands for
-use Rattle.std.specs.Prelude.{◌≡◌, ◌⊎◌, ◌<◌, ◌++◌, ℕ, false, Option, None, Some, Result, Ok, Err, List, map, drop, length, IfOk}
+use Rattle.std.specs.Prelude.{◌≡◌, ◌⊎◌, ◌<◌, ◌++◌, ℕ, cond, Option, None, Some, Result, Ok, Err, List, map, drop, length, IfOk}
 use Rattle.hla_base.specs.declared.content.HandleValuePair.{HandleValuePair}
 use Rattle.hla_base.specs.declared.fault.Fault.{Fault}
 use Rattle.hla_base.specs.Fault.{number_of, name_of}
@@ -56,12 +56,16 @@ abbrev pub IsIdle : Option Owned → ℕ → ℕ → Option Owned → Type 0
 IsIdle None reason code new = (code ≡ handle_closed) × (new ≡ None)
 IsIdle (Some old) reason code new = (code ≡ reason) × (new ≡ Some old)
 
--- a service with values: these heads and bytes are just those of some values, with which it is called; or they are of none, or the
--- values could not be copied, and nothing was done
+-- why no values were made: the heads and bytes are of none, or they could not be copied
+abbrev pub untaken_code : List ValueHead → List ℕ → ℕ
+untaken_code heads bytes = cond (fits heads bytes) 38 36
+
+-- a service with values: these heads and bytes are just those of some values, with which it is called; or no values were made, and
+-- nothing was done
 abbrev pub IsCallServedWith : Option Owned → ℕ → List ValueHead → List ℕ → (List HandleValuePair → Service) → (Answer → Type 0) → ℕ → Option Owned → Type 0
 IsCallServedWith old federate heads bytes service says code new =
     ((vs : List HandleValuePair) × (map head_of vs ≡ heads) × (bytes_in vs ≡ bytes) × IsCallServed old federate (service vs) says code new)
-    ⊎ (((fits heads bytes ≡ false) × IsIdle old 36 code new) ⊎ IsIdle old 38 code new)
+    ⊎ IsIdle old (untaken_code heads bytes) code new
 
 -- a service with what a number stands for; where it stands for nothing, nothing was done
 abbrev pub IsCallServedIn : {T : Type 0} → Option Owned → ℕ → Option T → (T → Service) → (Answer → Type 0) → ℕ → Option Owned → Type 0

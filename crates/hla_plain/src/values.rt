@@ -5,11 +5,26 @@ ghost use Rattle.hla_base.specs.declared.fault.Fault.TheVariants.{LimitReached, 
 ghost use Rattle.hla_plain.specs.Values.{head_of, bytes_in, fits, counted};
 
 use crate::data::ValueHead;
-use hla_base::{Fault, HandleValuePair, List, Value};
+use hla_base::{Fault, HandleValuePair, List, MAX_VALUE, Value};
 use std::alloc::Global;
 
+/// Whether these heads have just these bytes; it takes no memory.
+fn do_fit(heads: &[ValueHead], bytes: &[u8]) -> bool
+    ensures { result ≡ fits heads.now bytes.now }
+{
+    let mut rest = bytes;
+    for head in heads {
+        if head.length > MAX_VALUE as u64 || head.length > rest.len() as u64 {
+            return false;
+        }
+        rest = &rest[head.length as usize..];
+    }
+    rest.is_empty()
+}
+
 /// The values of these heads, whose bytes lie one behind another. `LimitReached` where the lengths do not add up to the
-/// bytes, or a value is longer than 1,024 bytes; `OutOfMemory` where a growth was refused.
+/// bytes, or a value is longer than 1,024 bytes, which is found before any memory is taken; `OutOfMemory` where a growth was
+/// refused.
 pub fn values_from(
     alloc: Global,
     heads: &[ValueHead],
@@ -17,9 +32,12 @@ pub fn values_from(
 ) -> Result<List<HandleValuePair>, Fault>
     ensures heads { IfOk result (λ vs. map head_of vs ≡ heads.now) }
     ensures bytes { IfOk result (λ vs. bytes_in vs ≡ bytes.now) }
-    ensures misfit { IsErrOf result Fault.LimitReached → fits heads.now bytes.now ≡ false }
+    ensures misfit { IsErrOf result Fault.LimitReached ↔ (fits heads.now bytes.now ≡ false) }
     ensures err { IfErr result (λ e. (e ≡ Fault.LimitReached) ⊎ (e ≡ Fault.OutOfMemory)) }
 {
+    if !do_fit(heads, bytes) {
+        return Err(Fault::LimitReached);
+    }
     let mut values = List::new(alloc);
     let mut rest = bytes;
     for head in heads {
