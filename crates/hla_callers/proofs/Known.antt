@@ -120,6 +120,9 @@ known_next history lefts k l at before known j m low found =
     below_more (λ (i : ℕ). (n : Leaver) → slice_get lefts i ≡ Some n → IsKnownUntil history n.caller) k (λ i small n there. before i n small there)
     (λ n there. let same : Some l ≡ Some n = sym at ∙ there in let here : l ≡ n = cc same in subst (λ (x : Leaver). IsKnownUntil history x.caller) here known) j low m found
 
+pub first_at : (place : ℕ) (P : ℕ → Type 0) → P place → (k : ℕ) → close_fault.Untold place ≡ close_fault.Untold k → P k
+first_at place P found k is = let same : place ≡ k = cc is in subst P same found
+
 -- a place that is refused
 pub untold_at : (place bound : ℕ) (P : ℕ → Type 0) → (place ≤ bound) × P place → (k : ℕ) → close_fault.Untold place ≡ close_fault.Untold k → (k ≤ bound) × P k
 untold_at place bound P found k is = let same : place ≡ k = cc is in subst (λ (n : ℕ). (n ≤ bound) × P n) same found

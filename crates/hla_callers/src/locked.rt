@@ -14,9 +14,9 @@ ghost use Rattle.hla_history.specs.Hosts.{IsPlain};
 ghost use Rattle.hla_history.specs.Heard.{heard_by};
 ghost use Rattle.hla_history.specs.Hosting.{held_of};
 ghost use Rattle.hla_history.specs.Writing.{step_record};
-ghost use Rattle.hla_callers.specs.Close.{AllHere, AllAgree, AllKnown, AreOfCallers, DiffersFirst, IsKnownUntil, IsUnknownAt};
+ghost use Rattle.hla_callers.specs.Close.{AllHere, AllAgree, AllKnown, AreOfCallers, DiffersFirst, IsKnownUntil, IsUnknownAt, KnownBefore};
 ghost use Rattle.hla_callers.specs.Waiting.{vain_steps_then, Learns};
-ghost use Rattle.hla_callers.specs.Locked.{choiceless_record, own_record, IsFull, IsPosted, IsRecorded, IsNotRecorded, CountsRecord};
+ghost use Rattle.hla_callers.specs.Locked.{choiceless_record, own_record, with_published, IsFull, IsPosted, IsRecorded, IsNotRecorded, CountsRecord};
 
 use crate::closing::{CloseFault, Closed, Unsettled, settle};
 use crate::patience::{Patience, vain_steps_after};
@@ -79,7 +79,7 @@ fn note_last<L: Naming, W: Publisher<L>>(board: &mut Board<L, W>, transcript: &[
 fn catch_up_board<L: Naming, W: Publisher<L>>(board: &mut Board<L, W>) -> Result<(), Fault>
     ensures published { OnOk result (board.new.published ≡ board.new.shown) }
     ensures posted { (h : List Entry) → IsPosted h board.old → IsPosted h board.new }
-    ensures monitors { board.new.monitors ≡ board.old.monitors }
+    ensures same { board.new ≡ with_published board.old board.new.published }
 {
     board.catch_up()
 }
@@ -294,6 +294,8 @@ impl<L: Ledger + Naming, B: FederateAmbassador, W: Publisher<L>, F: Execution> L
         ensures begins { self.old.ended ≡ false → IsPrefix result self.new.held.history }
         ensures held { self.new.held ≡ self.old.held }
         ensures ended { self.new.ended ≡ self.old.ended }
+        ensures vain { self.new.vain_steps ≡ self.old.vain_steps }
+        ensures posted { self.new.posted ≡ with_published self.old.posted result }
     {
         let _ = catch_up_board(&mut self.board);
         self.board.tell()
@@ -310,6 +312,9 @@ impl<L: Ledger + Naming, B: FederateAmbassador, W: Publisher<L>, F: Execution> L
             (λ _. self.new.posted.monitors ≡ self.old.posted.monitors) }
         ensures held { self.new.held ≡ self.old.held }
         ensures ended { self.new.ended ≡ self.old.ended }
+        ensures vain { self.new.vain_steps ≡ self.old.vain_steps }
+        ensures shown { self.new.posted.shown ≡ self.old.posted.shown }
+        ensures whole { self.new.posted.whole ≡ self.old.posted.whole }
     {
         let _ = catch_up_board(&mut self.board);
         self.board.monitor()
@@ -327,6 +332,7 @@ impl<L: Ledger + Naming, B: FederateAmbassador, W: Publisher<L>, F: Execution> L
     /// The place of the first caller whose last act is not known; at the list's length that is the infrastructure itself.
     fn first_unknown(&self, lefts: &[Left<L, B>], own: &Seat<L>) -> Option<usize>
         ensures none { IfNone result (AllKnown self.now.held.history lefts.now own.now) }
+        ensures first { IfSome result (λ k. KnownBefore self.now.held.history lefts.now k) }
         ensures some { IfSome result (λ k. (k ≤ length lefts.now)
             × (self.now.ended ≡ false → IsUnknownAt self.now.posted.shown lefts.now own.now k)) }
     {
@@ -366,6 +372,8 @@ impl<L: Ledger + Naming, B: FederateAmbassador, W: Publisher<L>, F: Execution> L
         ensures unknown { IfErr result (λ u. (k : ℕ) → u.fault ≡ CloseFault.Untold k
             → (k ≤ vec_len lefts)
             × (self.old.ended ≡ false → IsUnknownAt self.old.posted.shown lefts.items seat k)) }
+        ensures first { IfErr result (λ u. (k : ℕ) → u.fault ≡ CloseFault.Untold k
+            → KnownBefore self.old.held.history lefts.items k) }
         ensures present { IfErr result (λ u. u.fault ≢ CloseFault.Missing) }
         ensures back { IfErr result (λ u. (u.seat ≡ seat) × (u.rest ≡ rest) × (u.lefts ≡ lefts)) }
         ensures same { OnErr result (self.new ≡ self.old) }

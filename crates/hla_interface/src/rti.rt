@@ -9,7 +9,7 @@ ghost use Rattle.hla_machine.specs.declared.step.Outcome.TheVariants as outcome;
 ghost use Rattle.hla_machine.specs.declared.step.Step.TheVariants as step;
 ghost use Rattle.hla_history.specs.Closing.{Replays};
 ghost use Rattle.hla_history.specs.Creating.{catalogue_from};
-ghost use Rattle.hla_callers.specs.Close.{AllHere, AllAgree, AllKnown, AreOfCallers, DiffersFirst};
+ghost use Rattle.hla_callers.specs.Close.{AllHere, AllAgree, AllKnown, AreOfCallers, DiffersFirst, KnownBefore};
 ghost use Rattle.hla_callers.specs.Callers.{Caller, new_caller, HasActed, HasNotActed, HasAnswered, said, nothing};
 
 use crate::answers::done_in;
@@ -148,6 +148,7 @@ impl<L: Ledger + Naming, B: FederateAmbassador, W: Publisher<L>, F: Execution> R
         ensures couriers { MatchResult result (λ _. self.new.couriers ≡ self.old.couriers + 1)
             (λ _. self.new.couriers ≡ self.old.couriers) }
         ensures own { self.new.own ≡ self.old.own }
+        ensures below { OnOk result (self.old.couriers < max_couriers) }
         ensures err { IfErr result (λ e.
             ((e ≡ Fault.LimitReached)
             × ((max_couriers ≤ self.old.couriers) ⊎ (max_callers ≤ self.old.handed)))
@@ -273,7 +274,8 @@ impl<L: Ledger + Naming, B: FederateAmbassador, W: Publisher<L>, F: Execution> R
             → (h : List Record) × Replays h × AllKnown h lefts.items self.own
             × DiffersFirst h lefts.items self.own k) }
         ensures unknown { IfErr result (λ n. (k : ℕ) → n.fault ≡ CloseFault.Untold k
-            → k ≤ vec_len lefts) }
+            → (h : List Record) × Replays h × KnownBefore h lefts.items k
+            × (k ≤ vec_len lefts)) }
         ensures back { IfErr result (λ n. (n.rti ≡ self) × (n.lefts ≡ lefts)) }
     {
         if !all_here(self.handed, lefts.as_slice()) {

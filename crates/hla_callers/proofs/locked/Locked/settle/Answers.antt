@@ -2,10 +2,10 @@ use Rattle.std.proofs.Common.{◌≡◌, ℕ, ◌≤◌, false, subst, List}
 use Rattle.std.specs.Prelude.{IfErr, vec_len}
 use Rattle.hla_history.specs.Closing.{Replays}
 use Rattle.hla_callers.specs.Callers.{Leaver}
-use Rattle.hla_callers.specs.Close.{AllKnown, DiffersFirst, IsUnknownAt}
+use Rattle.hla_callers.specs.Close.{AllKnown, DiffersFirst, IsUnknownAt, KnownBefore}
 use Rattle.hla_callers.specs.declared.closing.CloseFault.TheVariants as close_fault
 use Rattle.hla_callers.specs.Locked.{LockedValue}
-use Rattle.hla_callers.proofs.Known.{when_ok, when_differs, differs_at, untold_at}
+use Rattle.hla_callers.proofs.Known.{when_ok, when_differs, differs_at, untold_at, first_at}
 use Rattle.hla_callers.proofs.locked.Locked.settle.Goals as goal
 
 pub returns-then-is_ok-clause-known : goal.returns-then-is_ok-clause-known
@@ -22,6 +22,11 @@ pub returns-else-is_ok-clause-differs : goal.returns-else-is_ok-clause-differs
 returns-else-is_ok-clause-differs g c =
     subst (λ (l : LockedValue). IfErr c.settle-settled.result (λ u. (k : ℕ) → u.fault ≡ close_fault.Transcript k → DiffersFirst l.held.history c.args.lefts.items c.args.seat k)) c.self.view_is
     (differs_at (λ u. u.fault) (λ k. DiffersFirst c.self.inside.shared.history c.args.lefts.items c.args.seat k) c.settle-settled.result c.settle-settled.ensures.differs)
+
+pub returns-in-Some-clause-first : goal.returns-in-Some-clause-first
+returns-in-Some-clause-first g c =
+    first_at c.in-Some.place (KnownBefore c.args.self.now.held.history c.args.lefts.items)
+    (subst (λ (ls : List Leaver). KnownBefore c.args.self.now.held.history ls c.in-Some.place) c.as_slice.ensures.value c.in-Some.ensures.first)
 
 pub returns-in-Some-clause-replays : goal.returns-in-Some-clause-replays
 returns-in-Some-clause-replays g c = subst (λ (l : LockedValue). Replays l.held.history) c.self.view_is (_, c.kept.ensures.replays)

@@ -30,4 +30,4 @@ returns-in-Err-clause-differs g c k is =
     (h, c.in-Err.ensures.replays, both.0, both.1)
 
 pub returns-in-Err-clause-unknown : goal.returns-in-Err-clause-unknown
-returns-in-Err-clause-unknown g c k is = (c.in-Err.ensures.unknown k is).0
+returns-in-Err-clause-unknown g c k is = (c.deref_mut.result.now.held.history, c.in-Err.ensures.replays, c.in-Err.ensures.first k is, (c.in-Err.ensures.unknown k is).0)
