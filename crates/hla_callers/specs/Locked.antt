@@ -26,8 +26,8 @@ pub record IsPosted (history : List Record) (posted : Posted) : Type 0 where
   pub whole : posted.whole ≡ true → posted.shown ≡ history
 
 -- what lies on the board, with another beginning published
-abbrev pub with_published : Posted → List Record → Posted
-with_published p published = record { whole = p.whole; shown = p.shown; published = published; monitors = p.monitors }
+abbrev pub with_beginning_published : Posted → List Record → Posted
+with_beginning_published p published = record { whole = p.whole; shown = p.shown; published = published; monitors = p.monitors }
 
 -- while the history is there
 abbrev pub IsPostedWhile : Bool → List Record → Posted → Type 0

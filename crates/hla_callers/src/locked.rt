@@ -16,7 +16,7 @@ ghost use Rattle.hla_history.specs.Hosting.{held_of};
 ghost use Rattle.hla_history.specs.Writing.{step_record};
 ghost use Rattle.hla_callers.specs.Close.{AllHere, AllAgree, AllKnown, AreOfCallers, DiffersFirst, IsKnownUntil, IsUnknownAt, KnownBefore};
 ghost use Rattle.hla_callers.specs.Waiting.{vain_steps_then, Learns};
-ghost use Rattle.hla_callers.specs.Locked.{choiceless_record, own_record, with_published, IsFull, IsPosted, IsRecorded, IsNotRecorded, CountsRecord};
+ghost use Rattle.hla_callers.specs.Locked.{choiceless_record, own_record, with_beginning_published, IsFull, IsPosted, IsRecorded, IsNotRecorded, CountsRecord};
 
 use crate::closing::{CloseFault, Closed, Unsettled, settle};
 use crate::patience::{Patience, vain_steps_after};
@@ -79,7 +79,7 @@ fn note_last<L: Naming, W: Publisher<L>>(board: &mut Board<L, W>, transcript: &[
 fn catch_up_board<L: Naming, W: Publisher<L>>(board: &mut Board<L, W>) -> Result<(), Fault>
     ensures published { OnOk result (board.new.published ≡ board.new.shown) }
     ensures posted { (h : List Entry) → IsPosted h board.old → IsPosted h board.new }
-    ensures same { board.new ≡ with_published board.old board.new.published }
+    ensures same { board.new ≡ with_beginning_published board.old board.new.published }
 {
     board.catch_up()
 }
@@ -295,7 +295,7 @@ impl<L: Ledger + Naming, B: FederateAmbassador, W: Publisher<L>, F: Execution> L
         ensures held { self.new.held ≡ self.old.held }
         ensures ended { self.new.ended ≡ self.old.ended }
         ensures vain { self.new.vain_steps ≡ self.old.vain_steps }
-        ensures posted { self.new.posted ≡ with_published self.old.posted result }
+        ensures posted { self.new.posted ≡ with_beginning_published self.old.posted result }
     {
         let _ = catch_up_board(&mut self.board);
         self.board.tell()
