@@ -56,15 +56,31 @@ abbrev pub IsInSerialOrder : ℕ → List Event → Type 0
 IsInSerialOrder g [] = Unit {0}
 IsInSerialOrder g (e ∷ es) = (e.sender ≡ g → e.ordered ≡ false → AfterSerial g e.serial es) × IsInSerialOrder g es
 
+-- what g sent among these has a serial above m
+abbrev pub AboveSerial : ℕ → ℕ → List Event → Type 0
+AboveSerial g m es = EachOf (λ (e : Event). e.sender ≡ g → m < e.serial) es
+
+-- what g sent among these, in time-stamp order or in receive order, stands in the order of serials
+abbrev pub HasRisingSerials : ℕ → List Event → Type 0
+HasRisingSerials g [] = Unit {0}
+HasRisingSerials g (e ∷ es) = (e.sender ≡ g → AboveSerial g e.serial es) × HasRisingSerials g es
+
+-- what g sent among es has a serial below those of what it sent among others
+abbrev pub AreEarlier : ℕ → List Event → List Event → Type 0
+AreEarlier g others es = EachOf (λ (e : Event). e.sender ≡ g → AboveSerial g e.serial others) es
+
 -- how often a copy is on its way to f
 abbrev pub places_in : (ℕ → ℕ → List Message) → (ℕ → List Event) → (ℕ → List Event) → ℕ → ℕ → ℕ → ℕ
 places_in wire tso ro g m f = occurrences g m (events (wire g f)) + (occurrences g m (tso f) + occurrences g m (ro f))
 
--- each copy is at most once on its way, with a serial that was given out, and those in receive order in the order of serials
+-- Each copy is at most once on its way, with a serial that was given out, and those in receive order in the order of serials. On a
+-- wire all serials rise, and what waits in key order has a serial below those that its sender still has on the wire
 pub record CopyInv (serial : ℕ → ℕ) (wire : ℕ → ℕ → List Message) (tso ro : ℕ → List Event) : Type 0 where
   pub once : (g m f : ℕ) → places_in wire tso ro g m f ≤ 1
   pub unused : (g m f : ℕ) → serial g ≤ m → places_in wire tso ro g m f ≡ 0
   pub serials : (g f : ℕ) → IsInSerialOrder g (ro f ++ events (wire g f))
+  pub rising : (g f : ℕ) → HasRisingSerials g (events (wire g f))
+  pub earlier : (g f : ℕ) → AreEarlier g (events (wire g f)) (tso f)
 
 -- ---- wires
 -- is there a wire from g to f

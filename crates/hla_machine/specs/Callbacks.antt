@@ -1,5 +1,5 @@
 -- What a federate may pick up at a tick, and the state after it (HLA 1.3, time management)
-use Rattle.std.specs.Prelude.{ℕ, ◌-◌, ◌≡◌, ◌≢◌, ◌≤◌, ◌<◌, ◌⊎◌, cond, eqb, ◌&&◌, Bool, true, false, Option, Some, None, IfSome, option_map, List, [], ◌∷◌, drop, All}
+use Rattle.std.specs.Prelude.{ℕ, ◌-◌, ◌≡◌, ◌≢◌, ◌≤◌, ◌<◌, ◌⊎◌, min, cond, eqb, ◌&&◌, Bool, true, false, Option, Some, None, IfSome, option_map, List, [], ◌∷◌, drop, All}
 use Rattle.std.specs.List.{list_any}
 use Rattle.hla_base.specs.declared.number.EventHandle.{EventHandle}
 use Rattle.hla_base.specs.declared.content.Content.{Content}
@@ -10,7 +10,7 @@ use Rattle.hla_base.specs.declared.notice.NoticeKind.TheVariants as kind
 use Rattle.hla_base.specs.declared.row.AdvanceRequest.{AdvanceRequest}
 use Rattle.hla_base.specs.declared.row.TimeRow.{TimeRow}
 use Rattle.hla_base.specs.Tables.{upd, upd2}
-use Rattle.hla_base.specs.Rows.{is_strict, is_next, is_flush, is_constrained, is_pending, is_advancing, row_after_regulation_enabled, row_after_constraint_enabled, row_after_pick, grant_time, row_after_grant, reach}
+use Rattle.hla_base.specs.Rows.{is_strict, is_next, is_flush, is_constrained, is_pending, is_advancing, least_of, row_after_regulation_enabled, row_after_constraint_enabled, row_after_pick, grant_time, row_after_grant, reach}
 use Rattle.hla_callbacks.specs.declared.callback.Callback.{Callback}
 use Rattle.hla_callbacks.specs.declared.callback.Callback.TheVariants as callback
 use Rattle.hla_callbacks.specs.declared.callback.Delivery.{Delivery}
@@ -38,6 +38,11 @@ IsCopy c f e k = c.bag e.sender e.serial f ≡ Some k
 -- messages that one federate sent in receive order are given in the order of their serials
 abbrev pub IsFirstRo : Central → ℕ → EventHandle → Type 0
 IsFirstRo c f e = (n : ℕ) (k : Copy) → n < e.serial → c.bag e.sender n f ≡ Some k → k.order ≢ Ro
+
+-- of one sender's messages with one stamp, those that are given in time-stamp order are given in the order of their serials; one that was
+-- retracted counts while its retraction is under way
+abbrev pub IsFirstOfStamp : Central → ℕ → EventHandle → ℕ → Type 0
+IsFirstOfStamp c f e s = (n : ℕ) (k : Copy) → n < e.serial → c.bag e.sender n f ≡ Some k → k.order ≡ Tso → k.stamp ≢ s
 
 -- a next-event request takes only stamps equal to its first pick
 abbrev pub IsAtFirstPick : TimeRow → AdvanceRequest → ℕ → Type 0
@@ -71,13 +76,15 @@ MayDeliver c f x e (delivery.Demoted s) =
     MayReceive (c.row f) × IsDiscovered c f x × IsCopy c f e (record { order = Demoted; stamp = s; content = x })
 MayDeliver c f x e (delivery.TimeStamp s) =
     (is_constrained (c.row f) ≡ true) × IsDiscovered c f x × IsCopy c f e (record { order = Tso; stamp = s; content = x })
-    × WhileAdvancing (c.row f) (λ q. MayPickIn c f q e s)
+    × WhileAdvancing (c.row f) (λ q. MayPickIn c f q e s) × IsFirstOfStamp c f e s
 
 -- ---- grants
--- a flush is granted a time that nothing picked up or waiting is below
+-- a flush is granted a time that nothing picked up or waiting is below, and at least the least of what it asked for, the federate's bar,
+-- and what it picked up
 abbrev pub MayGrantFlush : Central → ℕ → AdvanceRequest → ℕ → Type 0
 MayGrantFlush c f q t =
     ((c.row f).time ≤ t) × (t ≤ q.asked) × IfSome (c.row f).flushed (λ s. t ≤ s) × BelowBound c f t × BelowAllTso c f t
+    × (least_of (min q.asked (c.row f).bar) (c.row f).flushed ≤ t)
 
 -- by whether the federate is constrained and whether it flushes: unconstrained, it is granted what it asked for; constrained,
 -- a flush as above, and any other advance its time once nothing before the reach of that waits or can still come
@@ -138,6 +145,36 @@ MayPickUp c f (callback.SynchronizationPointRegistrationSucceeded label) o = IsN
 MayPickUp c f (callback.SynchronizationPointRegistrationFailed label) o = IsNextNotice (c.notices f) (notice kind.RegistrationFailed label)
 MayPickUp c f (callback.AnnounceSynchronizationPoint label) o = IsNextNotice (c.notices f) (notice kind.Announced label)
 MayPickUp c f (callback.FederationSynchronized label) o = IsNextNotice (c.notices f) (notice kind.Synchronized label)
+
+-- ---- in turn
+-- f is to be told nothing of synchronization points, and to be asked to take no message back
+pub record NothingIsDue (c : Central) (f : ℕ) : Type 0 where
+  pub told : c.notices f ≡ []
+  pub asked : (g m : ℕ) → c.due g m f ≡ 0
+
+-- what is due so goes ahead of messages, of the enabling of roles, and of grants
+abbrev pub IsInTurn : Central → ℕ → Callback → Type 0
+IsInTurn c f (callback.ReflectAttributeValues object values event d) = NothingIsDue c f
+IsInTurn c f (callback.ReceiveInteraction class values event d) = NothingIsDue c f
+IsInTurn c f (callback.RemoveObjectInstance object event d) = NothingIsDue c f
+IsInTurn c f (callback.TimeRegulationEnabled time) = NothingIsDue c f
+IsInTurn c f (callback.TimeConstrainedEnabled time) = NothingIsDue c f
+IsInTurn c f (callback.TimeAdvanceGrant time) = NothingIsDue c f
+IsInTurn c f k = Unit {0}
+
+abbrev pub MayBeGiven : Central → ℕ → Callback → Choice → Type 0
+MayBeGiven c f k o = MayPickUp c f k o × IsInTurn c f k
+
+-- a tick gives nothing only where nothing is due, and where the federate does not wait to regulate, nor unconstrained for a grant, nor in a
+-- flush: what it may wait for then depends on others
+pub record MayTickInVain (c : Central) (f : ℕ) : Type 0 where
+  pub due : NothingIsDue c f
+  pub roles : is_pending (c.row f).regulating ≡ false
+  pub advance : (q : AdvanceRequest) → (c.row f).advance ≡ Some q → (is_constrained (c.row f) ≡ true) × (is_flush q.kind ≡ false)
+
+abbrev pub MayTick : Central → ℕ → Option Callback → Choice → Type 0
+MayTick c f None o = MayTickInVain c f
+MayTick c f (Some k) o = MayBeGiven c f k o
 
 -- ---- the state after it
 abbrev pub with_central_row : Central → ℕ → TimeRow → Central

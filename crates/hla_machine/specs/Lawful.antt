@@ -1,5 +1,5 @@
 -- What every run keeps, of the happenings of one run: each law a field
-use Rattle.std.specs.Prelude.{ℕ, ◌≡◌, ◌≢◌, ◌≤◌, ◌<◌, ◌⊎◌, true, false, Some, List, [], ◌∷◌, ◌++◌}
+use Rattle.std.specs.Prelude.{ℕ, ◌≡◌, ◌≢◌, ◌≤◌, ◌<◌, ◌⊎◌, true, false, Some, None, List, [], ◌∷◌, ◌++◌}
 use Rattle.std.specs.List.{All}
 use Rattle.hla_base.specs.declared.content.Discovery.{Discovery}
 use Rattle.hla_base.specs.declared.number.EventHandle.{EventHandle}
@@ -9,14 +9,17 @@ use Rattle.hla_callbacks.specs.declared.callback.Callback.{Callback}
 use Rattle.hla_callbacks.specs.declared.callback.Callback.TheVariants as callback
 use Rattle.hla_catalogue.specs.CatalogueValue.{CatalogueValue}
 use Rattle.hla_machine.specs.declared.service.Service.{Service}
-use Rattle.hla_machine.specs.declared.step.Step.TheVariants.{Call}
+use Rattle.hla_machine.specs.declared.step.Step.TheVariants.{Call, Tick}
 use Rattle.hla_machine.specs.declared.step.Answer.{Answer}
 use Rattle.hla_machine.specs.declared.step.Answer.TheVariants as answer
 use Rattle.hla_machine.specs.declared.step.Outcome.TheVariants as outcome
 use Rattle.hla_machine.specs.Central.{Central, Copy, new_central}
-use Rattle.hla_machine.specs.Callbacks.{IsCopy}
+use Rattle.hla_machine.specs.Callbacks.{IsCopy, IsInTurn, MayTickInVain}
 use Rattle.hla_machine.specs.Runs.{Happening, IsRun}
 use Rattle.hla_machine.specs.History.{GivesCallback, SpeaksOf, Hears, HearsPlain, Picks, IsGranted, IsInNoFlush, IsInStrict, IsInOneAdvance, IsBefore, next_state, WaitsInOrder, IsPickedOrMoved, messages_of, stamp_given, AreSentTo, GoesInItsOrder, Names, TellsCopy, IsOnItsWay, IsSettled, HasHistory, central_after, Occurs, OccurAfter, OccursLater}
+use Rattle.hla_machine.specs.Advancing.{IsAskedFor}
+use Rattle.hla_machine.specs.AskedBack.{IsAskedBack}
+use Rattle.hla_machine.specs.Discovered.{IsRegisteredFor}
 use Rattle.hla_machine.specs.Synchronized.{IsPointOpen, Closes, HasAchieved, WaitsForSome, StaysJoined, IsSynchronizedAmong, due_over, told_over}
 use Rattle.hla_machine.specs.Laws.{IsSafe, IsAhead}
 
@@ -46,6 +49,16 @@ pub record IsLawful (c : Central) (happenings : List Happening) : Type 0 where
   -- and is told what the copy said that was on its way to it, whenever that was looked at
   pub tells : (now : Central) (between : List Happening) (then : Central) (h : Happening) (f : ℕ) (e : EventHandle) (k : Copy) (x : Callback) →
       OccursLater c happenings now between then h → IsCopy now f e k → GivesCallback h.step h.outcome f x → Names x e → TellsCopy x k
+  -- what a federate is asked to take back its sender has retracted, and the federate was given it before, and never asked so before, whatever
+  -- run led from a new execution to a state
+  pub asked_back : (now : Central) (h : Happening) (f : ℕ) (e : EventHandle) (catalogue : CatalogueValue) (earlier : List Happening) → Occurs c happenings now h → IsRun (new_central catalogue) earlier now →
+      GivesCallback h.step h.outcome f (callback.RequestRetraction e) → IsAskedBack earlier f e
+  -- what waits of synchronization points, and each request to take a message back that waits, goes ahead of messages, of the enabling of roles,
+  -- and of grants
+  pub in_turn : (now : Central) (h : Happening) (f : ℕ) (k : Callback) → Occurs c happenings now h → GivesCallback h.step h.outcome f k → IsInTurn now f k
+  -- a tick gives nothing only where none of these waits, and where the federate does not wait to regulate, nor unconstrained for a grant, nor
+  -- in a flush
+  pub in_vain : (now : Central) (h : Happening) (f : ℕ) → Occurs c happenings now h → h.step ≡ Tick f → h.outcome ≡ outcome.Done (answer.Ticked None) → MayTickInVain now f
   -- ---- objects
   -- two registrations give different numbers and different names
   pub differ : (now : Central) (h : Happening) (between : List Happening) (then : Central) (i : Happening) (a b : ℕ) (n p : List ℕ) →
@@ -53,6 +66,10 @@ pub record IsLawful (c : Central) (happenings : List Happening) : Type 0 where
   -- nothing is said of an object while its discovery waits
   pub discovered : (now : Central) (h : Happening) (f : ℕ) (k : Callback) (object : ℕ) → Occurs c happenings now h → GivesCallback h.step h.outcome f k → SpeaksOf k object →
       (g : ℕ) → All (λ (d : Discovery). d.object ≢ object) (now.discoveries g f)
+  -- an object that a federate discovers was registered by another under the name that is told, and of the class that is told or one derived
+  -- from it, whatever run led from a new execution to a state
+  pub registered : (now : Central) (h : Happening) (f object class : ℕ) (name : List ℕ) (catalogue : CatalogueValue) (earlier : List Happening) → Occurs c happenings now h → IsRun (new_central catalogue) earlier now →
+      GivesCallback h.step h.outcome f (callback.DiscoverObjectInstance object class name) → IsRegisteredFor catalogue earlier f object class name
   -- ---- synchronization points, whatever run led from a new execution to a state
   -- when a point closes, each federate that is joined after that was told of this point and has achieved it since
   pub closed : (now : Central) (h : Happening) (label : List ℕ) (g : ℕ) (catalogue : CatalogueValue) (earlier : List Happening) → Occurs c happenings now h → IsRun (new_central catalogue) earlier now →
@@ -79,6 +96,13 @@ pub record IsLawful (c : Central) (happenings : List Happening) : Type 0 where
   -- within one strict request the keys of the picks rise
   pub keys : (now : Central) (h : Happening) (between : List Happening) (then : Central) (i : Happening) (f : ℕ) (e x : EventHandle) (s t : ℕ) →
       OccurAfter c happenings now h between then i → IsInStrict (now.row f) → IsInOneAdvance (next_state now h) between f → Picks h f e s → Picks i f x t → IsBefore e s x t
+  -- of one sender's messages with one stamp, those that are given in time-stamp order are given in the order in which they were sent
+  pub equal_stamps : (now : Central) (h : Happening) (between : List Happening) (then : Central) (i : Happening) (f : ℕ) (e x : EventHandle) (s : ℕ) →
+      OccurAfter c happenings now h between then i → Picks h f e s → Picks i f x s → e.sender ≡ x.sender → e.serial < x.serial
+  -- a grant answers the last request of its federate that was done, and the federate was granted nothing since, whatever run led from a new
+  -- execution to a state
+  pub asked_for : (now : Central) (h : Happening) (f t : ℕ) (catalogue : CatalogueValue) (earlier : List Happening) → Occurs c happenings now h → IsRun (new_central catalogue) earlier now →
+      IsGranted h f t → IsAskedFor earlier f t
   -- after a call that answers an event handle, each receiver of that event waits for it in time-stamp order, with its stamp
   pub waits : (now : Central) (h : Happening) (f : ℕ) (service : Service) (e : EventHandle) (g : ℕ) → Occurs c happenings now h → h.step ≡ Call f service → h.outcome ≡ outcome.Done (answer.Sent (Some e)) →
       ((next_state now h).sent e.sender e.serial).receivers g ≡ true → WaitsInOrder (next_state now h) g e ((next_state now h).sent e.sender e.serial).stamp

@@ -17,6 +17,9 @@ use Rattle.hla_machine.specs.declared.step.Choice.{Choice}
 use Rattle.hla_machine.specs.Machine.{Allowed, after}
 use Rattle.hla_machine.specs.Runs.{Happening, IsRun}
 use Rattle.hla_machine.specs.History.{GivesCallback, SpeaksOf, Hears, HearsPlain, Picks, IsGranted, Happens, HappenAfter, IsInNoFlush, IsInStrict, IsInOneAdvance, IsBefore, next_state, HappensLater, WaitsInOrder, IsPickedOrMoved, GoesInItsOrder}
+use Rattle.hla_machine.specs.Advancing.{IsAskedFor}
+use Rattle.hla_machine.specs.AskedBack.{IsAskedBack}
+use Rattle.hla_machine.specs.Discovered.{IsRegisteredFor}
 use Rattle.hla_machine.specs.Synchronized.{IsPointOpen, Closes, HasAchieved, WaitsForSome, StaysJoined, IsSynchronizedAmong, due_over, told_over}
 
 -- a constrained federate is safe: its time is at most its bar, the bar is at most its bound, and nothing that is
@@ -85,6 +88,21 @@ abbrev pub SendersOrder : Type 0
 SendersOrder = (c : Central) (h : Happening) (between : List Happening) (d : Central) (i : Happening) (f : ℕ) (e x : EventHandle) →
     HappenAfter c h between d i → HearsPlain h f e → HearsPlain i f x → e.sender ≡ x.sender → e.serial < x.serial
 
+-- of one sender's messages with one stamp, those that are given in time-stamp order are given in the order in which they were sent
+abbrev pub EqualStampsKeepOrder : Type 0
+EqualStampsKeepOrder = (c : Central) (h : Happening) (between : List Happening) (d : Central) (i : Happening) (f : ℕ) (e x : EventHandle) (s : ℕ) →
+    HappenAfter c h between d i → Picks h f e s → Picks i f x s → e.sender ≡ x.sender → e.serial < x.serial
+
+-- a grant answers the last request of its federate that was done, and the federate was granted nothing since
+abbrev pub EachGrantIsAskedFor : Type 0
+EachGrantIsAskedFor = (catalogue : CatalogueValue) (earlier : List Happening) (now : Central) (h : Happening) (f t : ℕ) →
+    IsRun (new_central catalogue) earlier now → Allowed now h.step h.outcome h.choice → IsGranted h f t → IsAskedFor earlier f t
+
+-- what a federate is asked to take back its sender has retracted, and the federate was given it before, and never asked so before
+abbrev pub OnlyRetractedAreAskedBack : Type 0
+OnlyRetractedAreAskedBack = (catalogue : CatalogueValue) (earlier : List Happening) (now : Central) (h : Happening) (f : ℕ) (e : EventHandle) →
+    IsRun (new_central catalogue) earlier now → Allowed now h.step h.outcome h.choice → GivesCallback h.step h.outcome f (callback.RequestRetraction e) → IsAskedBack earlier f e
+
 -- two registrations give different numbers and different names
 abbrev pub RegistrationsDiffer : Type 0
 RegistrationsDiffer = (c : Central) (h : Happening) (between : List Happening) (d : Central) (i : Happening) (a b : ℕ) (n p : List ℕ) →
@@ -94,6 +112,13 @@ RegistrationsDiffer = (c : Central) (h : Happening) (between : List Happening) (
 abbrev pub DiscoveredBefore : Type 0
 DiscoveredBefore = (c : Central) (h : Happening) (f : ℕ) (k : Callback) (object : ℕ) → Happens c h → GivesCallback h.step h.outcome f k → SpeaksOf k object →
     (g : ℕ) → All (λ (d : Discovery). d.object ≢ object) (c.discoveries g f)
+
+-- an object that a federate discovers was registered by another under the name that is told, and of the class that is told or one derived
+-- from it
+abbrev pub EachDiscoveryIsRegistered : Type 0
+EachDiscoveryIsRegistered = (catalogue : CatalogueValue) (earlier : List Happening) (now : Central) (h : Happening) (f object class : ℕ) (name : List ℕ) →
+    IsRun (new_central catalogue) earlier now → Allowed now h.step h.outcome h.choice → GivesCallback h.step h.outcome f (callback.DiscoverObjectInstance object class name) →
+    IsRegisteredFor catalogue earlier f object class name
 
 -- when a point closes, each federate that is joined after that has achieved it: it was told of this point, and after that its call Synchronization
 -- Point Achieved was done

@@ -14,7 +14,7 @@ pub mod Machine
 pub mod Runs
 -- What is said of several moments of a run
 pub mod History
--- That each object is discovered first, and once
+-- That each object is discovered first, and once, and by the name under which it was registered
 pub mod Discovered
 -- What is told of synchronization points, and when
 pub mod Synchronized
@@ -24,8 +24,10 @@ pub mod CentralInvariant
 pub mod Laws
 -- The same of the happenings of one run
 pub mod Lawful
--- The services that request an advance
+-- The services that request an advance, and which of them a grant answers
 pub mod Advancing
+-- When a federate is asked to take a message back
+pub mod AskedBack
 -- `==` of services tells them apart: a service at a time, since the search over all pairs of services is too long
 pub mod Services
 -- `==` of steps, outcomes, acts and records tells them apart, part by part

@@ -31,7 +31,7 @@ use Rattle.hla_machine.specs.Directory.{Directory, Outgoing, name_or_default, ob
 use Rattle.hla_machine.specs.Central.{Central, Copy, Demoted, BelowAllTso, BelowOut, BelowBound, BelowSomeWake, low_entry, at_key, at3, demoted_copy}
 use Rattle.hla_machine.specs.Sends.{after_messages, sent_handle, is_told, owed_to_receivers}
 use Rattle.hla_machine.specs.Refusals.{Seen, refusal, is_known}
-use Rattle.hla_machine.specs.Callbacks.{MayPickUp, after_pick, IsCopy, AreTso, is_among, with_central_row, with_demoted}
+use Rattle.hla_machine.specs.Callbacks.{MayBeGiven, MayTick, after_pick, IsCopy, AreTso, is_among, with_central_row, with_demoted}
 use Rattle.std.specs.Str.{bytes_eq}
 
 abbrev pub central_seen : Central → Seen
@@ -131,13 +131,10 @@ MayCarry c g f (carried.Removal e) = IsCarriedCopy c g f e true
 MayCarry c g f (carried.Retraction e) = (e.sender ≡ g) × (1 ≤ c.owed g e.serial f)
 MayCarry c g f (carried.Discovery object) = Any (λ (d : Discovery). d.object ≡ object) (c.discoveries g f)
 
+-- a promise is at most what the regulator may still send, and at least its floor
 abbrev pub MayAnnounce : Central → ℕ → Option ℕ → Type 0
 MayAnnounce c f None = Unit {0}
-MayAnnounce c f (Some v) = (is_regulator (c.row f) ≡ true) × BelowOut (BelowAllTso c f) (c.row f) v
-
-abbrev pub MayTick : Central → ℕ → Option Callback → Choice → Type 0
-MayTick c f None o = Unit {0}
-MayTick c f (Some k) o = MayPickUp c f k o
+MayAnnounce c f (Some v) = (is_regulator (c.row f) ≡ true) × BelowOut (BelowAllTso c f) (c.row f) v × ((c.row f).floor ≤ v)
 
 abbrev pub MayDo : Central → Step → Answer → Choice → Type 0
 MayDo c (Join name) (answer.Federate number) o = number ≡ c.directory.next_federate
@@ -152,7 +149,7 @@ abbrev pub MayEnd : Central → Step → Outcome → Choice → Type 0
 MayEnd c step (outcome.Done a) o = (refusal (central_seen c) step ≡ None) × MayDo c step a o
 MayEnd c step (outcome.Refused e) o = refusal (central_seen c) step ≡ Some e
 -- an ambassador that fails in a callback has picked it up all the same
-MayEnd c (Tick f) (outcome.Failed k) o = (refusal (central_seen c) (Tick f) ≡ None) × MayPickUp c f k o
+MayEnd c (Tick f) (outcome.Failed k) o = (refusal (central_seen c) (Tick f) ≡ None) × MayBeGiven c f k o
 MayEnd c step (outcome.Failed k) o = ⊥
 
 -- ---- where something is chosen, and of which form

@@ -3,7 +3,7 @@
 ghost use Rattle.hla_machine.specs.Histories.{EachHistoryIsLawful};
 ghost use Rattle.hla_machine.specs.Projection.{EachExecutionIsARun};
 ghost use Rattle.hla_machine.specs.Lawful.{EachRunIsLawful};
-ghost use Rattle.hla_machine.specs.Laws.{EachRunIsSafe, NothingIsInThePast, StampsNeverFall, KeysRise, ReceiversWait, EachGoesInItsOrder, ClosesAfterAll, EachOpenPointWaits, SynchronizedAfterAll, NothingWaitsForStrangers, EachIsToldInTurn, NobodyHearsItself, EachMessageOnce, GivenToTheJoined, SendersOrder, RegistrationsDiffer, DiscoveredBefore, GrantedAfterAllBefore};
+ghost use Rattle.hla_machine.specs.Laws.{EachRunIsSafe, NothingIsInThePast, StampsNeverFall, KeysRise, ReceiversWait, EachGoesInItsOrder, ClosesAfterAll, EachOpenPointWaits, SynchronizedAfterAll, NothingWaitsForStrangers, EachIsToldInTurn, NobodyHearsItself, EachMessageOnce, GivenToTheJoined, SendersOrder, RegistrationsDiffer, DiscoveredBefore, GrantedAfterAllBefore, EqualStampsKeepOrder, EachGrantIsAskedFor, EachDiscoveryIsRegistered, OnlyRetractedAreAskedBack};
 
 /// In each run of the machine each constrained federate is safe: its time is at most its bar, its bar at most its
 /// bound, and nothing that is to be given in time-stamp order lies in its past.
@@ -67,9 +67,34 @@ pub fn senders_order()
     ensures { SendersOrder }
 {}
 
+/// Of one sender's messages with one stamp, those that a federate is given in time-stamp order it is given in the order in which they
+/// were sent.
+pub fn equal_stamps_keep_order()
+    ensures { EqualStampsKeepOrder }
+{}
+
+/// A grant answers the last request of its federate that was done, and the federate was granted nothing since: a Time Advance Request
+/// at the time that it asked for, a Next Event Request there or at the stamp of an event that was picked up since, a Flush Queue
+/// Request at most there.
+pub fn each_grant_is_asked_for()
+    ensures { EachGrantIsAskedFor }
+{}
+
+/// A federate is asked to take a message back (Request Retraction) only after its sender's Retract of that message was done and the
+/// federate was given it, and at most once.
+pub fn only_retracted_are_asked_back()
+    ensures { OnlyRetractedAreAskedBack }
+{}
+
 /// The number and the name of an object are never given twice in an execution, deleted or not.
 pub fn registrations_differ()
     ensures { RegistrationsDiffer }
+{}
+
+/// An object that a federate discovers was registered by another under the name that is told, and of the class that is told or one
+/// derived from it.
+pub fn each_discovery_is_registered()
+    ensures { EachDiscoveryIsRegistered }
 {}
 
 /// Records that are a run of all executions, cut to one of them from its creation on, are a run of that execution from a new

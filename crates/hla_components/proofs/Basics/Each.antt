@@ -5,7 +5,7 @@ use Rattle.std.proofs.lemmas.Bool.Decides.{nat_tests}
 use Rattle.hla_base.specs.declared.content.Event.{Event}
 use Rattle.hla_base.specs.Tables.{one_if}
 use Rattle.hla_order_queues.specs.Queues.{is_before, insert_event, is_event, find_event, remove_event, occurrences}
-use Rattle.hla_components.specs.Invariant.{EachOf, AfterSerial, IsInSerialOrder}
+use Rattle.hla_components.specs.Invariant.{EachOf, AfterSerial, IsInSerialOrder, HasRisingSerials, AreEarlier}
 
 pub EachOf-append : {X : Type 0} (P : X → Type 0) (xs ys : List X) → EachOf P xs → EachOf P ys → EachOf P (xs ++ ys)
 EachOf-append P [] ys a b = b
@@ -99,3 +99,17 @@ unfolding remove_event
 serials-remove g h m [] ys a = a
 serials-remove g h m (x ∷ xs) ys a = cond_both (is_event h m x) xs (x ∷ remove_event h m xs) (λ zs. IsInSerialOrder g (zs ++ ys)) (λ _. a.1)
     (λ _. ((λ from plain. let r = EachOf-parts _ xs ys (a.0 from plain) in EachOf-append _ (remove_event h m xs) ys (EachOf-remove _ h m xs r.0) r.1), serials-remove g h m xs ys a.1))
+
+-- ---- serials rise on a wire
+-- one with a greater serial is put at the end
+pub rising-put : (g : ℕ) (e : Event) (xs : List Event) → EachOf (λ (y : Event). y.sender ≡ g → y.serial < e.serial) xs → HasRisingSerials g xs → HasRisingSerials g (xs ++ e ∷ [])
+rising-put g e [] low h = ((λ _. tt), tt)
+rising-put g e (x ∷ xs) low h = ((λ from. EachOf-append _ xs (e ∷ []) (h.0 from) ((λ _. low.0 from), tt)), rising-put g e xs low.1 h.1)
+
+pub earlier-put : (g : ℕ) (e : Event) (others xs : List Event) → EachOf (λ (y : Event). y.sender ≡ g → y.serial < e.serial) xs → AreEarlier g others xs → AreEarlier g (others ++ e ∷ []) xs
+earlier-put g e others [] low h = tt
+earlier-put g e others (x ∷ xs) low h = ((λ from. EachOf-append _ others (e ∷ []) (h.0 from) ((λ _. low.0 from), tt)), earlier-put g e others xs low.1 h.1)
+
+-- the first goes
+pub earlier-rest : (g : ℕ) (e : Event) (others xs : List Event) → AreEarlier g (e ∷ others) xs → AreEarlier g others xs
+earlier-rest g e others xs h = EachOf-weaker _ _ xs (λ _ above from. (above from).1) h

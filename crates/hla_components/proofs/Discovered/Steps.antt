@@ -131,12 +131,12 @@ module _ (P : ℕ → ℕ → Type 0) (c : Central) (k : Discovering P c) (told 
   done_discovers (Carry g f) (answer.Carried x) o none may = silent _ _ (λ f i y. y.gives) (quiet_discovers P c k _ (carry_quiet c g f x))
   done_discovers (Announce f) (answer.Announced v) o none may = silent _ _ (λ f i y. y.gives) k
   done_discovers (Tick f) (answer.Ticked None) o none may = silent _ _ (λ f i y. y.gives) k
-  done_discovers (Tick f) (answer.Ticked (Some x)) o none may = tick_discovers f x (outcome.Done (answer.Ticked (Some x))) o (λ g y w. w) (λ g y w. w) may
+  done_discovers (Tick f) (answer.Ticked (Some x)) o none may = tick_discovers f x (outcome.Done (answer.Ticked (Some x))) o (λ g y w. w) (λ g y w. w) may.0
   done_discovers step a o none may = absurd may
 
   pub step_discovers : (step : Step) (out : Outcome) (o : Choice) → MayEnd c step out o → Discovering (With (record { step = step; outcome = out; choice = o })) (after c step out o)
   step_discovers step (outcome.Done a) o may = done_discovers step a o may.0 may.1
-  step_discovers (Tick f) (outcome.Failed x) o may = tick_discovers f x (outcome.Failed x) o (λ g y w. w) (λ g y w. w) may.1
+  step_discovers (Tick f) (outcome.Failed x) o may = tick_discovers f x (outcome.Failed x) o (λ g y w. w) (λ g y w. w) may.1.0
   step_discovers (Join name) (outcome.Refused e) o may = silent _ _ (λ f i y. y.gives) k
   step_discovers (Call f s) (outcome.Refused e) o may = silent _ _ (λ f i y. y.gives) k
   step_discovers (Carry g f) (outcome.Refused e) o may = silent _ _ (λ f i y. y.gives) k

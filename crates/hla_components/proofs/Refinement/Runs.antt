@@ -102,15 +102,15 @@ carry_step s g f (message.Retraction m ∷ ms) kept front none = step_retraction
 carry_step s g f (message.Discovery d ∷ ms) kept front none = step_discovery s g f d ms kept front none
 
 pick_step : (s : Components) (f : ℕ) (p : Pick) → Inv s → refusal (components_seen s) (Tick f) ≡ None → PickFacts (s.controls f) (s.row f) (s.ro f) (s.tso f) (local_bound s f) p → IsKeptStep s (Tick f) (pick_outcome s f p)
-pick_step s f NoPick inv none facts = step_no_pick s f inv.kept none
+pick_step s f NoPick inv none facts = step_no_pick s f inv.kept facts.0 facts.1 none
 pick_step s f (PickControl (ToDiscover from d) rest) inv none facts = step_discover s f rest inv.kept from d facts none
 pick_step s f (PickControl (ToRetract e) rest) inv none facts = step_request s f rest inv.kept e facts none
 pick_step s f (PickControl (ToTell n) rest) inv none facts = step_tell s f rest n inv.kept facts none
 pick_step s f (PickRo e rest) inv none facts = step_ro s f e rest inv.kept facts.1 inv.laws facts.0 facts.2 none
-pick_step s f PickRegulates inv none facts = step_regulates s f inv.kept none facts
-pick_step s f PickConstrains inv none facts = step_constrains s f inv.kept (ticker_joined (components_seen s) f none) none facts
+pick_step s f PickRegulates inv none facts = step_regulates s f inv.kept facts.0 none facts.1
+pick_step s f PickConstrains inv none facts = step_constrains s f inv.kept (ticker_joined (components_seen s) f none) facts.0 none (facts.1, facts.2, facts.3)
 pick_step s f (PickTso q e rest) inv none facts = step_tso s f q e rest inv.kept facts.1 inv.laws (ticker_joined (components_seen s) f none) facts.0 none
-pick_step s f (PickGrant q t) inv none facts = step_grant s f q t inv.kept facts (ticker_joined (components_seen s) f none) none
+pick_step s f (PickGrant q t) inv none facts = step_grant s f q t inv.kept facts.1 (ticker_joined (components_seen s) f none) facts.0 none
 
 done_step : (s : Components) (step : Step) → Inv s → refusal (components_seen s) step ≡ None → IsKeptStep s step (step_outcome s step)
 done_step s (Join name) inv none = step_join s name inv.kept none
@@ -164,7 +164,7 @@ inv_start catalogue = record {
       bars = λ _ e. absurd (cc);
       rows = λ _. row_start;
     };
-    copies = record { once = λ _ _ _. omega arith; unused = λ _ _ _ _. refl; serials = λ _ _. tt };
+    copies = record { once = λ _ _ _. omega arith; unused = λ _ _ _ _. refl; serials = λ _ _. tt; rising = λ _ _. tt; earlier = λ _ _. tt };
     objects = record { tells = λ _ _. tt; ordered = λ _. tt; plain = λ _. tt; due = λ _. tt };
   };
   laws = record {

@@ -1,5 +1,5 @@
 -- Ticks that enable regulation, give a message in time-stamp order, or grant an advance
-use Rattle.std.proofs.Common.{◌≡◌, ℕ, ◌+◌, ◌≤◌, ◌<◌, min, max, cond, eqb, not, ◌&&◌, Bool, true, false, refl, sym, le_trans, ap, ◌∙◌, inr, subst, ⊎_elim, arith, eqb-true, List, [], ◌∷◌, Option, Some, None, IfSome}
+use Rattle.std.proofs.Common.{◌≡◌, ◌⊎◌, ℕ, ◌+◌, ◌≤◌, ◌<◌, min, max, cond, eqb, not, ◌&&◌, Bool, true, false, refl, sym, le_trans, ap, ◌∙◌, inr, subst, ⊎_elim, arith, eqb-true, List, [], ◌∷◌, Option, Some, None, IfSome}
 use Rattle.std.proofs.lemmas.Bool.{cond_both, and_parts, cases_Bool}
 use Rattle.hla_base.specs.declared.content.Event.{Event}
 use Rattle.hla_base.specs.declared.row.AdvanceKind.{AdvanceKind}
@@ -14,7 +14,7 @@ use Rattle.hla_callbacks.specs.declared.callback.Delivery.TheVariants as deliver
 use Rattle.hla_machine.specs.declared.step.Step.TheVariants.{Tick}
 use Rattle.hla_machine.specs.declared.step.Choice.TheVariants as choice
 use Rattle.hla_machine.specs.Central.{Reached, at_key}
-use Rattle.hla_machine.specs.Callbacks.{IsLeastKey, MayPick, MayGrantFlush, row_after, after_delivery}
+use Rattle.hla_machine.specs.Callbacks.{IsLeastKey, IsFirstOfStamp, MayPick, MayGrantFlush, row_after, after_delivery}
 use Rattle.hla_machine.specs.Callbacks as machine
 use Rattle.hla_machine.specs.Refusals.{refusal}
 use Rattle.hla_order_queues.specs.Queues.{find_event, is_event, handle_of, first_stamp}
@@ -25,23 +25,24 @@ use Rattle.hla_components.specs.Component.{local_bound}
 use Rattle.hla_local.specs.Picking.{is_first_fit, PickRegulates, PickTso, PickGrant}
 use Rattle.hla_components.specs.Next.{components_seen, pick_outcome}
 use Rattle.hla_components.specs.CentralOf.{central, bag_of, wire_copy, tso_copy, ro_copy}
-use Rattle.hla_components.specs.Invariant.{EachOf, Above, IsTsoQueue, IsInKeyOrder, IsWaiting, CopyInv, ObjectInv, is_wire, stamps, Kept}
+use Rattle.hla_components.specs.Invariant.{EachOf, Above, IsTsoQueue, IsInKeyOrder, AreEarlier, IsWaiting, CopyInv, ObjectInv, is_wire, stamps, Kept}
 use Rattle.hla_machine.specs.CentralInvariant.{CentralInv}
 use Rattle.hla_components.specs.Headline.{IsKeptStep}
 use Rattle.hla_base.proofs.Tables.{upd_self, least_le, least_le-forever}
 use Rattle.hla_machine.proofs.Basics.GrantCases.{grant_by_cases}
 use Rattle.hla_components.proofs.Wiring.Keys.{find-key_order}
-use Rattle.hla_components.proofs.Wiring.Queues.{Above-weaker, find-cons, occurs-cons, first_rest}
+use Rattle.hla_components.proofs.Wiring.Queues.{Above-weaker, find-key, find-cons, occurs-cons, first_rest}
 use Rattle.hla_components.proofs.Wiring.Wires.{retractions-nil}
 use Rattle.hla_components.proofs.Wiring.Carries.{Carries-retraction}
 use Rattle.hla_components.proofs.Upkeep.Times.{KeepsRow, time_local, time_le_bound}
+use Rattle.hla_components.proofs.Basics.Each.{EachOf-find}
 use Rattle.hla_components.proofs.Wiring.Copies.{copies_local}
 use Rattle.hla_components.proofs.Upkeep.Objects.{objects_queues}
 use Rattle.hla_components.proofs.Upkeep.Bounds.{below_all, below_bound, copy_cases, wire_above, wire_from, tso_of_copy, not_ro_copy}
 use Rattle.hla_machine.proofs.Basics.Bags.{central_ext}
 use Rattle.hla_components.proofs.Wiring.Bags.{copy_tso, find_first, bag_tso_picked}
 use Rattle.hla_components.proofs.Refinement.Picks.{TsoFacts, GrantFacts}
-use Rattle.hla_components.proofs.Services.Ticks.{discovered, may_give, after_give}
+use Rattle.hla_components.proofs.Services.Ticks.{nothing_due, discovered, may_give, after_give}
 use Rattle.hla_components.proofs.Services.TimeSteps.{kept_row, idle_fresh}
 
 row_after_is : (r : TimeRow) (o : Option AdvanceRequest) (q : AdvanceRequest) (step : AdvanceRequest → TimeRow) → o ≡ Some q → row_after r o step ≡ step q
@@ -53,8 +54,8 @@ pending_regulator Disabled e = absurd (cc)
 pending_regulator Pending e = refl
 pending_regulator Enabled e = absurd (cc)
 
-pub step_regulates : (s : Components) (f : ℕ) → Kept s → refusal (components_seen s) (Tick f) ≡ None → is_pending (s.row f).regulating ≡ true → IsKeptStep s (Tick f) (pick_outcome s f PickRegulates)
-step_regulates s f kept none was =
+pub step_regulates : (s : Components) (f : ℕ) → Kept s → s.controls f ≡ [] → refusal (components_seen s) (Tick f) ≡ None → is_pending (s.row f).regulating ≡ true → IsKeptStep s (Tick f) (pick_outcome s f PickRegulates)
+step_regulates s f kept free none was =
     let old = kept.time.rows f in
     let idle : (s.row f).advance ≡ None = old.idle was in
     record {
@@ -74,7 +75,7 @@ step_regulates s f kept none was =
           steady = λ _ e. absurd (cc);
         };
       });
-      allowed = (none, (was, refl));
+      allowed = (none, ((was, refl), nothing_due s f free));
       follows = refl;
     }
 
@@ -117,6 +118,11 @@ flush_ge : (first : ℕ) (o : Option ℕ) (x : ℕ) → x ≤ first → ((t : �
 flush_ge first None x a b = a
 flush_ge first (Some t) x a b = omega (arith, b t refl)
 
+-- a flush is granted no less where its bound is no less
+flush_least : (a b : ℕ) (o : Option ℕ) → a ≤ b → least_of a o ≤ least_of b o
+flush_least a b None h = h
+flush_least a b (Some t) h = omega arith
+
 flush_below : (first : ℕ) (o : Option ℕ) (t : ℕ) → t ≡ least_of first o → IfSome o (λ s. t ≤ s)
 flush_below first None t e = tt
 flush_below first (Some x) t e = omega arith
@@ -147,13 +153,14 @@ module _ (s : Components) (f : ℕ) (q : AdvanceRequest) (t : ℕ) (kept : Kept 
         flush_below (min q.asked (local_bound s f)) (s.row f).flushed t e.1,
         below_bound s f t kept member low,
         below_all s f t kept reached.1 low,
+        subst (λ x. least_of (min q.asked (s.row f).bar) (s.row f).flushed ≤ x) (sym e.1) (flush_least (min q.asked (s.row f).bar) (min q.asked (local_bound s f)) (s.row f).flushed (omega (arith, kept.time.bars f c))),
       )
 
   grant_plain : s.directory.joined f ≡ true → is_constrained (s.row f) ≡ true → is_flush q.kind ≡ false → (t ≡ grant_time (s.row f) q) × Reached (central s) f q.kind t
   grant_plain member c n = let e = facts.reached c n in (e.0, (below_bound s f (reach q.kind t) kept member e.1, below_all s f (reach q.kind t) kept e.2 e.1))
 
-  pub step_grant : s.directory.joined f ≡ true → refusal (components_seen s) (Tick f) ≡ None → IsKeptStep s (Tick f) (pick_outcome s f (PickGrant q t))
-  step_grant member none =
+  pub step_grant : s.directory.joined f ≡ true → s.controls f ≡ [] → refusal (components_seen s) (Tick f) ≡ None → IsKeptStep s (Tick f) (pick_outcome s f (PickGrant q t))
+  step_grant member free none =
       let r = row_after_grant (s.row f) q t in
       let old = kept.time.rows f in
       record {
@@ -174,7 +181,7 @@ module _ (s : Components) (f : ℕ) (q : AdvanceRequest) (t : ℕ) (kept : Kept 
             steady = λ _ p. let e = old.idle p in let e2 = facts.asks in absurd (cc);
           };
         });
-        allowed = (none, (q, facts.asks, grant_by_cases (central s) f q t (grant_flush member) (grant_plain member) facts.free));
+        allowed = (none, ((q, facts.asks, grant_by_cases (central s) f q t (grant_flush member) (grant_plain member) facts.free), nothing_due s f free));
         follows = ap (λ (r : TimeRow). machine.with_central_row (central s) f r) (sym (row_after_is (s.row f) (s.row f).advance q (λ q. row_after_grant (s.row f) q t) facts.asks));
       }
 
@@ -228,6 +235,15 @@ module _ (s : Components) (f : ℕ) (q : AdvanceRequest) (e : Event) (rest : Lis
           let o : 1 ≤ 0 = rw (kept.wired e.sender f n, retractions-nil) at owed in absurd (omega arith))
           (cases_Bool (is_wire s.directory e.sender f))
 
+  -- at equal stamps what waits in key order has a key that is no smaller
+  queued_after : (h n : ℕ) (x : Event) → find_event h n (s.tso f) ≡ Some x → x.stamp ≡ e.stamp → (e.sender < h) ⊎ ((e.sender ≡ h) × (e.serial ≤ n))
+  queued_after h n x is same =
+      let found : cond (is_event h n e) (Some e) (find_event h n rest) ≡ Some x = rw (facts.front, find-cons) at is in
+      ⊎_elim
+      (λ (y : is_event h n e ≡ true). let p = and_parts _ _ y in inr (sym (eqb-true h e.sender p.0), omega (arith, eqb-true n e.serial p.1)))
+      (λ (o : is_event h n e ≡ false). find-key_order h n e x rest in_order.0 (rw o at found) same)
+      (cases_Bool (is_event h n e))
+
   -- at equal stamps a strict pick takes the least key: what lies on a wire has a larger stamp
   strict_key : reach q.kind e.stamp ≤ local_bound s f → IsLeastKey (central s) f q (handle_of e) e.stamp
   strict_key low strict h n k is live tso same =
@@ -239,14 +255,24 @@ module _ (s : Components) (f : ℕ) (q : AdvanceRequest) (e : Event) (rest : Lis
       absurd (omega (arith, high)))
       (⊎_elim
       (λ (w : (x : Event) × (find_event h n (s.tso f) ≡ Some x) × (tso_copy x ≡ k)).
-      let same2 : w.0.stamp ≡ e.stamp = rw (← w.2) at same in
-      let found : cond (is_event h n e) (Some e) (find_event h n rest) ≡ Some w.0 = rw (facts.front, find-cons) at w.1 in
-      ⊎_elim
-      (λ (y : is_event h n e ≡ true). let p = and_parts _ _ y in inr (sym (eqb-true h e.sender p.0), omega (arith, eqb-true n e.serial p.1)))
-      (λ (o : is_event h n e ≡ false). find-key_order h n e w.0 rest in_order.0 (rw o at found) same2)
-      (cases_Bool (is_event h n e)))
+      queued_after h n w.0 w.1 (rw (← w.2) at same))
       (λ (w : (x : Event) × (find_event h n (s.ro f) ≡ Some x) × (ro_copy x ≡ k)). absurd (not_ro_copy w.0 (rw (← w.2) at tso))))
       (copy_cases h n (s.wire h f) (s.tso f) (s.ro f) k is)
+
+  -- what its sender sent before it, with its stamp, waits no more: it would have come before it, and stand before it in the order of keys
+  first_of_stamp : IsFirstOfStamp (central s) f (handle_of e) e.stamp
+  first_of_stamp n k low is tso same =
+      let at : AreEarlier e.sender (events (s.wire e.sender f)) (e ∷ rest) = rw facts.front at (kept.copies.earlier e.sender f) in
+      ⊎_elim
+      (λ (w : (x : Event) × (find_event e.sender n (events (s.wire e.sender f)) ≡ Some x) × (wire_copy x ≡ k)).
+      let key = find-key e.sender n w.0 (events (s.wire e.sender f)) w.1 in
+      let up = EachOf-find _ e.sender n w.0 (events (s.wire e.sender f)) w.1 (at.0 refl) key.0 in
+      omega (arith, key.1))
+      (⊎_elim
+      (λ (w : (x : Event) × (find_event e.sender n (s.tso f) ≡ Some x) × (tso_copy x ≡ k)).
+      ⊎_elim (λ (l : e.sender < e.sender). omega arith) (λ (p : (e.sender ≡ e.sender) × (e.serial ≤ n)). omega (arith, p.1)) (queued_after e.sender n w.0 w.1 (rw (← w.2) at same)))
+      (λ (w : (x : Event) × (find_event e.sender n (s.ro f) ≡ Some x) × (ro_copy x ≡ k)). absurd (not_ro_copy w.0 (rw (← w.2) at tso))))
+      (copy_cases e.sender n (s.wire e.sender f) (s.tso f) (s.ro f) k is)
 
   picks_plain : CentralInv (central s) → s.directory.joined f ≡ true → is_flush q.kind ≡ false → MayPick (central s) f q (handle_of e) e.stamp
   picks_plain laws member n =
@@ -291,7 +317,8 @@ module _ (s : Components) (f : ℕ) (q : AdvanceRequest) (e : Event) (rest : Lis
     directory = kept.directory;
     wired = kept.wired;
     time = time_local s f (row_after_pick (s.row f) q e.stamp) rest kept.time tso_row;
-    copies = subst (λ (o : ℕ → List Event). CopyInv s.serial s.wire (upd s.tso f rest) o) (upd_self s.ro f) (copies_local s f rest (s.ro f) kept.copies (λ g m. rw (facts.front, occurs-cons) (omega arith)) (λ g. kept.copies.serials g f));
+    copies = subst (λ (o : ℕ → List Event). CopyInv s.serial s.wire (upd s.tso f rest) o) (upd_self s.ro f) (copies_local s f rest (s.ro f) kept.copies (λ g m. rw (facts.front, occurs-cons) (omega arith)) (λ g. kept.copies.serials g f)
+        (λ g. let at : AreEarlier g (events (s.wire g f)) (e ∷ rest) = rw facts.front at (kept.copies.earlier g f) in at.1));
     objects = subst (λ (o : ℕ → List Event). ObjectInv s.directory s.wire (upd s.tso f rest) o s.controls) (upd_self s.ro f) (objects_queues s.directory s.wire s.tso s.ro s.controls f rest (s.ro f)
         (let at : EachOf (IsWaiting s.directory s.wire f) (e ∷ rest) = rw facts.front at (kept.objects.ordered f) in at.1) (kept.objects.plain f) kept.objects);
   }
@@ -299,7 +326,7 @@ module _ (s : Components) (f : ℕ) (q : AdvanceRequest) (e : Event) (rest : Lis
   pub step_tso : CentralInv (central s) → s.directory.joined f ≡ true → s.controls f ≡ [] → refusal (components_seen s) (Tick f) ≡ None → IsKeptStep s (Tick f) (pick_outcome s f (PickTso q e rest))
   step_tso laws member free none = record {
     kept = tso_kept;
-    allowed = (none, may_give (central s) f (delivery.TimeStamp e.stamp) (handle_of e) e.content choice.None (facts.constrained, discovered s f kept free e told, copy_here, (q, facts.asks, ((λ _. ahead.0), picks_plain laws member))));
+    allowed = (none, may_give (central s) f (delivery.TimeStamp e.stamp) (handle_of e) e.content choice.None (facts.constrained, discovered s f kept free e told, copy_here, (q, facts.asks, ((λ _. ahead.0), picks_plain laws member)), first_of_stamp) (nothing_due s f free));
     follows = central_ext _ (after_delivery (central s) f (handle_of e) (delivery.TimeStamp e.stamp)) refl
         (ap (λ (r : TimeRow). upd s.row f r) (sym (row_after_is (s.row f) (s.row f).advance q (λ q. row_after_pick (s.row f) q e.stamp) facts.asks))) refl refl
         (subst (λ (o : ℕ → List Event). bag_of (record s { tso = upd s.tso f rest; ro = o }) ≡ at_key (bag_of s) e.sender e.serial f None) (upd_self s.ro f) (bag_tso_picked s f e rest kept.copies facts.front))

@@ -55,7 +55,7 @@ module _ (s : Components) (f : ℕ) (rest : List Control) (kept : Kept s) where
   pub step_request : (e : EventHandle) → s.controls f ≡ ToRetract e ∷ rest → refusal (components_seen s) (Tick f) ≡ None → IsKeptStep s (Tick f) (pick_outcome s f (PickControl (ToRetract e) rest))
   step_request e front none = record {
     kept = controls_kept (ToRetract e) front;
-    allowed = (none, rw (front, dues-retract) (rw same_key_one (omega arith)));
+    allowed = (none, (rw (front, dues-retract) (rw same_key_one (omega arith)), tt));
     follows = central_ext _ _ refl refl refl refl refl
         (λ g. by_number f _ (rw (upd_same, front, from-retract) refl) (λ k ne. rw upd_other refl))
         (λ _ _ _. refl)
@@ -70,7 +70,7 @@ module _ (s : Components) (f : ℕ) (rest : List Control) (kept : Kept s) where
   pub step_discover : (from : ℕ) (d : Discovery) → s.controls f ≡ ToDiscover from d ∷ rest → refusal (components_seen s) (Tick f) ≡ None → IsKeptStep s (Tick f) (pick_outcome s f (PickControl (ToDiscover from d) rest))
   step_discover from d front none = record {
     kept = controls_kept (ToDiscover from d) front;
-    allowed = (none, subst (λ g. IsNextDiscovery (discoveries_from g (s.controls f) ++ discoveries (s.wire g f)) d) (sym told.owner) (rw (front, from-discover, eq-eqb from from refl) refl));
+    allowed = (none, (subst (λ g. IsNextDiscovery (discoveries_from g (s.controls f) ++ discoveries (s.wire g f)) d) (sym told.owner) (rw (front, from-discover, eq-eqb from from refl) refl), tt));
     follows = central_ext _ _ refl refl refl refl refl (subst (λ g. (h k : ℕ) → discoveries_from h (upd s.controls f rest k) ++ discoveries (s.wire h k)
         ≡ upd2 (λ g f. discoveries_from g (s.controls f) ++ discoveries (s.wire g f)) g f (drop 1 (discoveries_from g (s.controls f) ++ discoveries (s.wire g f))) h k) (sym told.owner) shorter) (λ _ _ _. refl)
         (λ g m. by_number f _ (rw (upd_same, front, dues-discover) refl) (λ k ne. rw upd_other refl))

@@ -117,6 +117,8 @@ module _ (s : Components) (f : ℕ) (kept : Kept s) (member : s.directory.joined
     once = λ g m k. omega (arith, kept.copies.once g m k, leave_places g m k);
     unused = λ g m k new. omega (arith, kept.copies.unused g m k new, leave_places g m k);
     serials = λ g. by_number f _ (rw (upd_same, upd_whole_column_here, events-nil) tt) (λ k ne. rw (upd_other, upd_whole_column_else, row_events) (kept.copies.serials g k));
+    rising = λ g. by_number f _ (rw (upd_whole_column_here, events-nil) tt) (λ k ne. rw (upd_whole_column_else, row_events) (kept.copies.rising g k));
+    earlier = λ g. by_number f _ (rw upd_same tt) (λ k ne. rw (upd_other, upd_whole_column_else, row_events) (kept.copies.earlier g k));
   }
 
   -- ---- objects

@@ -15,7 +15,7 @@ use Rattle.hla_machine.specs.declared.step.Choice.TheVariants as choice
 use Rattle.hla_machine.specs.declared.step.Step.TheVariants.{Call, Tick}
 use Rattle.hla_machine.specs.Directory.{Directory, with_points, with_point_registered, registration_notices, with_point_achieved, with_points_left, closing_notices}
 use Rattle.hla_machine.specs.Central.{Central}
-use Rattle.hla_machine.specs.Callbacks.{IsNextNotice, MayPickUp, after_notice, after_pick}
+use Rattle.hla_machine.specs.Callbacks.{IsNextNotice, MayBeGiven, after_notice, after_pick}
 use Rattle.hla_machine.specs.Machine.{with_told, with_points_closed}
 use Rattle.hla_machine.specs.Refusals.{refusal}
 use Rattle.hla_order_queues.specs.declared.control.Control.{Control}
@@ -166,11 +166,11 @@ module _ (s : Components) (f : ℕ) (label : List ℕ) (kept : Kept s) where
       }
 
 -- ---- a tick
-may_tell : (c : Central) (f : ℕ) (k : NoticeKind) (label : List ℕ) (o : Choice) → IsNextNotice (c.notices f) (notice k label) → MayPickUp c f (notice_callback k label) o
-may_tell c f kind.RegistrationSucceeded label o first = first
-may_tell c f kind.RegistrationFailed label o first = first
-may_tell c f kind.Announced label o first = first
-may_tell c f kind.Synchronized label o first = first
+may_tell : (c : Central) (f : ℕ) (k : NoticeKind) (label : List ℕ) (o : Choice) → IsNextNotice (c.notices f) (notice k label) → MayBeGiven c f (notice_callback k label) o
+may_tell c f kind.RegistrationSucceeded label o first = (first, tt)
+may_tell c f kind.RegistrationFailed label o first = (first, tt)
+may_tell c f kind.Announced label o first = (first, tt)
+may_tell c f kind.Synchronized label o first = (first, tt)
 
 after_tell : (c : Central) (f : ℕ) (k : NoticeKind) (label : List ℕ) (o : Choice) → after_notice c f (notice k label) ≡ after_pick c f (notice_callback k label) o
 after_tell c f kind.RegistrationSucceeded label o = refl

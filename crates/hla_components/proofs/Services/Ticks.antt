@@ -20,11 +20,11 @@ use Rattle.hla_machine.specs.declared.step.Choice.{Choice}
 use Rattle.hla_machine.specs.declared.step.Choice.TheVariants as choice
 use Rattle.hla_machine.specs.Directory.{Directory}
 use Rattle.hla_machine.specs.Central.{Central, Ro, Tso, Demoted, at_key}
-use Rattle.hla_machine.specs.Callbacks.{IsDiscovered, IsFirstRo, MayReceive, MayDeliver, MayPickUp, after_delivery, after_pick}
+use Rattle.hla_machine.specs.Callbacks.{IsDiscovered, IsFirstRo, MayReceive, MayDeliver, NothingIsDue, MayBeGiven, after_delivery, after_pick}
 use Rattle.hla_machine.specs.Refusals.{refusal}
 use Rattle.hla_order_queues.specs.Queues.{find_event, handle_of, is_event}
 use Rattle.hla_null_message.specs.Wires.{events, discoveries}
-use Rattle.hla_order_queues.specs.Controls.{discoveries_from}
+use Rattle.hla_order_queues.specs.Controls.{discoveries_from, dues, notices_in}
 use Rattle.hla_components.specs.Components.{Components}
 use Rattle.hla_local.specs.Picking.{NoPick, PickRo, is_held_back}
 use Rattle.hla_components.specs.Next.{components_seen, pick_outcome, callback_outcome, event_callback, content_callback}
@@ -36,6 +36,7 @@ use Rattle.hla_base.proofs.Tables.{upd_self}
 use Rattle.hla_components.proofs.Wiring.Queues.{find-key, find-cons, occurs-cons}
 use Rattle.hla_components.proofs.Basics.Each.{EachOf-find, EachOf-parts, EachOf-weaker}
 use Rattle.hla_components.proofs.Wiring.Copies.{copies_local}
+use Rattle.hla_components.proofs.Refinement.Picks.{RestFacts}
 use Rattle.hla_components.proofs.Upkeep.Objects.{objects_queues}
 use Rattle.hla_components.proofs.Upkeep.Bounds.{copy_cases}
 use Rattle.hla_machine.proofs.Basics.Bags.{central_ext}
@@ -69,6 +70,11 @@ no_controls : (g : ℕ) → discoveries_from g [] ≡ []
 unfolding discoveries_from
 no_controls g = refl
 
+-- all that is due waits among the controls
+pub nothing_due : (s : Components) (f : ℕ) → s.controls f ≡ [] → NothingIsDue (central s) f
+unfolding dues notices_in
+nothing_due s f free = record { told = rw free refl; asked = λ g m. rw free refl }
+
 module _ (s : Components) (f : ℕ) (kept : Kept s) (none : s.controls f ≡ []) where
   -- no discovery of g's object is on any wire where there is none on the wire from g
   no_discovery : (g object : ℕ) → IsKnownOf s.directory g f object → EachOf (λ (d : Discovery). d.object ≢ object) (discoveries (s.wire g f))
@@ -89,18 +95,18 @@ module _ (s : Components) (f : ℕ) (kept : Kept s) (none : s.controls f ≡ [])
   discovered e w = discovered_content e.sender e.content w.0 w.1
 
 -- ---- what is given
-pub may_give : (c : Central) (f : ℕ) (d : Delivery) (h : EventHandle) (x : Content) (o : Choice) → MayDeliver c f x h d → MayPickUp c f (content_callback d h x) o
-may_give c f d h (content.Interaction class values) o m = m
-may_give c f d h (content.Reflection object values) o m = m
-may_give c f d h (content.Removal object) o m = m
+pub may_give : (c : Central) (f : ℕ) (d : Delivery) (h : EventHandle) (x : Content) (o : Choice) → MayDeliver c f x h d → NothingIsDue c f → MayBeGiven c f (content_callback d h x) o
+may_give c f d h (content.Interaction class values) o m due = (m, due)
+may_give c f d h (content.Reflection object values) o m due = (m, due)
+may_give c f d h (content.Removal object) o m due = (m, due)
 
 pub after_give : (c : Central) (f : ℕ) (d : Delivery) (h : EventHandle) (x : Content) (o : Choice) → after_delivery c f h d ≡ after_pick c f (content_callback d h x) o
 after_give c f d h (content.Interaction class values) o = refl
 after_give c f d h (content.Reflection object values) o = refl
 after_give c f d h (content.Removal object) o = refl
 
-pub step_no_pick : (s : Components) (f : ℕ) → Kept s → refusal (components_seen s) (Tick f) ≡ None → IsKeptStep s (Tick f) (pick_outcome s f NoPick)
-step_no_pick s f kept none = record { kept = kept; allowed = (none, tt); follows = refl }
+pub step_no_pick : (s : Components) (f : ℕ) → Kept s → s.controls f ≡ [] → RestFacts (s.row f) → refusal (components_seen s) (Tick f) ≡ None → IsKeptStep s (Tick f) (pick_outcome s f NoPick)
+step_no_pick s f kept free rests none = record { kept = kept; allowed = (none, record { due = nothing_due s f free; roles = rests.roles; advance = rests.advance }); follows = refl }
 
 -- ---- a message in receive order
 ro_when : (b : Bool) → cond b Tso Ro ≡ Ro → b ≡ false
@@ -142,7 +148,8 @@ module _ (s : Components) (f : ℕ) (e : Event) (rest : List Event) (kept : Kept
     time = kept.time;
     copies = subst (λ (q : ℕ → List Event). CopyInv s.serial s.wire q (upd s.ro f rest)) (upd_self s.tso f) (copies_local s f (s.tso f) rest kept.copies
         (λ g m. rw (front, occurs-cons) (omega arith))
-        (λ g. let at : IsInSerialOrder g (e ∷ rest ++ events (s.wire g f)) = rw front at (kept.copies.serials g f) in at.1));
+        (λ g. let at : IsInSerialOrder g (e ∷ rest ++ events (s.wire g f)) = rw front at (kept.copies.serials g f) in at.1)
+        (λ g. kept.copies.earlier g f));
     objects = subst (λ (q : ℕ → List Event). ObjectInv s.directory s.wire q (upd s.ro f rest) s.controls) (upd_self s.tso f) (objects_queues s.directory s.wire s.tso s.ro s.controls f (s.tso f) rest (kept.objects.ordered f)
         (let at : EachOf (IsWaiting s.directory s.wire f) (e ∷ rest) = rw front at (kept.objects.plain f) in at.1) kept.objects);
   }
@@ -154,7 +161,7 @@ module _ (s : Components) (f : ℕ) (e : Event) (rest : List Event) (kept : Kept
       → IsKeptStep s (Tick f) (callback_outcome (event_callback (cond b (delivery.Demoted e.stamp) delivery.Receive) e) (record s { ro = upd s.ro f rest }))
   ro_step laws free may none true is = record {
     kept = kept_ro;
-    allowed = (none, may_give (central s) f (delivery.Demoted e.stamp) (handle_of e) e.content choice.None (may, discovered s f kept free e told, copy_front ∙ ap Some (rw is refl)));
+    allowed = (none, may_give (central s) f (delivery.Demoted e.stamp) (handle_of e) e.content choice.None (may, discovered s f kept free e told, copy_front ∙ ap Some (rw is refl)) (nothing_due s f free));
     follows = central_ext _ (after_delivery (central s) f (handle_of e) (delivery.Demoted e.stamp)) refl refl refl refl bag_ro (λ _ _. refl) (λ _ _ _. refl) (λ _ _ _. refl) (λ _. refl)
         ∙ after_give (central s) f (delivery.Demoted e.stamp) (handle_of e) e.content choice.None;
   }
@@ -163,7 +170,7 @@ module _ (s : Components) (f : ℕ) (e : Event) (rest : List Event) (kept : Kept
       told = let at : EachOf (IsWaiting s.directory s.wire f) (e ∷ rest) = rw front at (kept.objects.plain f) in at.0
   ro_step laws free may none false is = record {
     kept = kept_ro;
-    allowed = (none, may_give (central s) f delivery.Receive (handle_of e) e.content choice.None (may, discovered s f kept free e told, copy_front ∙ ap Some plain, first_of_sender is));
+    allowed = (none, may_give (central s) f delivery.Receive (handle_of e) e.content choice.None (may, discovered s f kept free e told, copy_front ∙ ap Some plain, first_of_sender is) (nothing_due s f free));
     follows = central_ext _ (after_delivery (central s) f (handle_of e) delivery.Receive) refl refl refl refl bag_ro (λ _ _. refl) (λ _ _ _. refl) (λ _ _ _. refl) (λ _. refl)
         ∙ after_give (central s) f delivery.Receive (handle_of e) e.content choice.None;
   }

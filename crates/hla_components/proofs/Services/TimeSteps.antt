@@ -9,7 +9,7 @@ use Rattle.hla_base.specs.declared.row.Role.TheVariants.{Disabled, Pending}
 use Rattle.hla_base.specs.declared.row.TimeRow.{TimeRow}
 use Rattle.hla_null_message.specs.declared.message.Message.TheVariants as message
 use Rattle.hla_base.specs.Tables.{forever, upd, upd_row}
-use Rattle.hla_base.specs.Rows.{is_next, is_flush, is_regulator, is_constrained, is_pending, is_none_of, is_advancing, width, row_after_request}
+use Rattle.hla_base.specs.Rows.{is_next, is_flush, is_regulator, is_constrained, is_pending, is_none_of, is_advancing, next_request, width, row_after_request}
 use Rattle.hla_machine.specs.declared.service.Service.TheVariants as service
 use Rattle.hla_machine.specs.declared.step.Step.TheVariants.{Call, Announce}
 use Rattle.hla_machine.specs.declared.step.Answer.TheVariants as answer
@@ -17,6 +17,7 @@ use Rattle.hla_base.specs.RowRefusals.{request_tests}
 use Rattle.hla_machine.specs.Refusals.{refusal}
 use Rattle.hla_null_message.specs.Wires.{events, discoveries, retractions, put_behind}
 use Rattle.hla_order_queues.specs.Controls.{discoveries_from}
+use Rattle.hla_order_queues.specs.Queues.{first_stamp}
 use Rattle.hla_components.specs.Components.{Components}
 use Rattle.hla_null_message.specs.Promise.{promise_in}
 use Rattle.hla_components.specs.Component.{promise, local_bound}
@@ -197,6 +198,11 @@ module _ (s : Components) (f j v : ℕ) where
   null_central row = central_ext _ _ refl refl refl refl (bag_same_wires s (upd_row s.wire s.directory.joined f (λ _. put_behind (message.Null j v))) null_events)
       (λ g k. ap (λ ds. discoveries_from g (s.controls k) ++ ds) (sym (null_discoveries g k))) null_retractions (λ _ _ _. refl) (λ _. refl)
 
+-- a promise is at least the floor
+floor_promised : (r : TimeRow) (o : Option AdvanceRequest) (queued bound : ℕ) → r.floor ≤ promise_in r o queued bound
+floor_promised r None queued bound = omega arith
+floor_promised r (Some q) queued bound = omega arith
+
 pub step_announce : (s : Components) (f : ℕ) → Kept s → refusal (components_seen s) (Announce f) ≡ None → IsKeptStep s (Announce f) (step_outcome s (Announce f))
 step_announce s f kept none = cond_both (is_regulator (s.row f) && ltb (s.last_announced f) (promise s f))
     (answer_outcome (answer.Announced (Some (promise s f))) (with_null_announced s f (promise s f)))
@@ -209,7 +215,7 @@ step_announce s f kept none = cond_both (is_regulator (s.row f) && ltb (s.last_a
         copies = null_copies s f (s.epoch f) (promise s f) kept;
         objects = null_objects s f (s.epoch f) (promise s f) kept;
       };
-      allowed = (none, (p.0, below_out s f (promise s f) kept (omega arith)));
+      allowed = (none, (p.0, below_out s f (promise s f) kept (omega arith), floor_promised (s.row f) (next_request (s.row f)) (first_stamp (s.tso f)) (local_bound s f)));
       follows = null_central s f (s.epoch f) (promise s f) s.row;
     })
     (λ n. record { kept = kept; allowed = (none, tt); follows = refl })

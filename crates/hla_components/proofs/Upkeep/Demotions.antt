@@ -32,6 +32,7 @@ use Rattle.hla_components.proofs.Upkeep.Bounds.{copy_cases, wire_above, below_bo
 use Rattle.hla_machine.proofs.Basics.Bags.{bag_ext, central_ext, or_else-none}
 use Rattle.hla_components.proofs.Wiring.Bags.{alone_tso, copy_tso, event_self}
 use Rattle.hla_machine.proofs.Basics.Tests.{clear_call}
+use Rattle.hla_components.proofs.Services.Ticks.{nothing_due}
 use Rattle.hla_components.proofs.Services.TimeSteps.{at_rest, idle_last, idle_fresh}
 
 -- ---- what is found after a choice
@@ -166,7 +167,7 @@ step_cease s f kept none =
           row = record { idle = old.idle; resting = λ e. absurd (cc); asks = old.asks; flushes = old.flushes; barred = λ e. absurd (cc); steady = λ e. absurd (cc) };
         });
         copies = copies_local s f [] (s.ro f ++ s.tso f) kept.copies (λ g m. omega (arith, nothing_occurs g m, occurs-append g m (s.ro f) (s.tso f)))
-            (λ g. serials-between g (s.ro f) (s.tso f) (events (s.wire g f)) (each_ordered (s.tso f) (kept.time.queues f)) (kept.copies.serials g f));
+            (λ g. serials-between g (s.ro f) (s.tso f) (events (s.wire g f)) (each_ordered (s.tso f) (kept.time.queues f)) (kept.copies.serials g f)) (λ _. tt);
         objects = objects_queues s.directory s.wire s.tso s.ro s.controls f [] (s.ro f ++ s.tso f) tt (EachOf-append _ (s.ro f) (s.tso f) (kept.objects.plain f) (kept.objects.ordered f)) kept.objects;
       };
       allowed = (
@@ -183,9 +184,9 @@ Above-kept : (t : ℕ) (xs : List Event) → Above t (filter (λ e. not (is_belo
 Above-kept t [] = tt
 Above-kept t (x ∷ xs) = cond_both (not (is_below t x)) (x ∷ filter (λ e. not (is_below t e)) xs) (filter (λ e. not (is_below t e)) xs) (Above t) (λ y. (ltb-false x.stamp t (not-true _ y), Above-kept t xs)) (λ _. Above-kept t xs)
 
-pub step_constrains : (s : Components) (f : ℕ) → Kept s → s.directory.joined f ≡ true → refusal (components_seen s) (Tick f) ≡ None → (is_pending (s.row f).constrained ≡ true) × (is_pending (s.row f).regulating ≡ false) × ((s.row f).time ≤ local_bound s f)
-    → IsKeptStep s (Tick f) (pick_outcome s f PickConstrains)
-step_constrains s f kept member none facts =
+pub step_constrains : (s : Components) (f : ℕ) → Kept s → s.directory.joined f ≡ true → s.controls f ≡ [] → refusal (components_seen s) (Tick f) ≡ None
+    → (is_pending (s.row f).constrained ≡ true) × (is_pending (s.row f).regulating ≡ false) × ((s.row f).time ≤ local_bound s f) → IsKeptStep s (Tick f) (pick_outcome s f PickConstrains)
+step_constrains s f kept member free none facts =
     let t = (s.row f).time in
     let old = kept.time.rows f in
     let idle : (s.row f).advance ≡ None = old.resting facts.0 in
@@ -208,28 +209,32 @@ step_constrains s f kept member none facts =
           row = record { idle = λ _. idle; resting = λ _. idle; asks = old.asks; flushes = old.flushes; barred = λ _. omega arith; steady = λ _ p. let n = facts.1 in absurd (cc) };
         });
         copies = copies_local s f stay (s.ro f ++ go) kept.copies (λ g m. omega (arith, occurs-append g m (s.ro f) go, occurs-filter g m (is_below t) (s.tso f)))
-            (λ g. serials-between g (s.ro f) go (events (s.wire g f)) (EachOf-filter _ (is_below t) (s.tso f) (each_ordered (s.tso f) (kept.time.queues f))) (kept.copies.serials g f));
+            (λ g. serials-between g (s.ro f) go (events (s.wire g f)) (EachOf-filter _ (is_below t) (s.tso f) (each_ordered (s.tso f) (kept.time.queues f))) (kept.copies.serials g f))
+            (λ g. EachOf-filter _ _ (s.tso f) (kept.copies.earlier g f));
         objects = objects_queues s.directory s.wire s.tso s.ro s.controls f stay (s.ro f ++ go) (EachOf-filter _ _ (s.tso f) (kept.objects.ordered f))
             (EachOf-append _ (s.ro f) go (kept.objects.plain f) (EachOf-filter _ (is_below t) (s.tso f) (kept.objects.ordered f))) kept.objects;
       };
       allowed = (
         none,
         (
-          refl,
-          facts.0,
-          facts.1,
-          below_bound s f t kept member facts.2,
           (
-            moved_tso s f kept (is_below t) stay go stays goes (λ x. x < t) go (both go (EachOf-filter _ (is_below t) (s.tso f) (each_found (s.tso f) (once_tso s f kept))) (EachOf-passed (is_below t) (s.tso f))),
-            λ g m k is live tso low. ⊎_elim
-                (λ (w : (e : Event) × (find_event g m (events (s.wire g f)) ≡ Some e) × (wire_copy e ≡ k)).
-                let high = wire_above s g f m w.0 kept w.1 (tso_of_copy w.0 (rw (← w.2) at tso)) in
-                let low2 : w.0.stamp < t = rw (← w.2) at low in absurd (omega (arith, high, low2, facts.2)))
-                (⊎_elim
-                (λ (w : (e : Event) × (find_event g m (s.tso f) ≡ Some e) × (tso_copy e ≡ k)). let low2 : w.0.stamp < t = rw (← w.2) at low in among g m w.0 w.1 low2)
-                (λ (w : (e : Event) × (find_event g m (s.ro f) ≡ Some e) × (ro_copy e ≡ k)). absurd (not_ro_copy w.0 (rw (← w.2) at tso))))
-                (copy_cases g m (s.wire g f) (s.tso f) (s.ro f) k is),
+            refl,
+            facts.0,
+            facts.1,
+            below_bound s f t kept member facts.2,
+            (
+              moved_tso s f kept (is_below t) stay go stays goes (λ x. x < t) go (both go (EachOf-filter _ (is_below t) (s.tso f) (each_found (s.tso f) (once_tso s f kept))) (EachOf-passed (is_below t) (s.tso f))),
+              λ g m k is live tso low. ⊎_elim
+                  (λ (w : (e : Event) × (find_event g m (events (s.wire g f)) ≡ Some e) × (wire_copy e ≡ k)).
+                  let high = wire_above s g f m w.0 kept w.1 (tso_of_copy w.0 (rw (← w.2) at tso)) in
+                  let low2 : w.0.stamp < t = rw (← w.2) at low in absurd (omega (arith, high, low2, facts.2)))
+                  (⊎_elim
+                  (λ (w : (e : Event) × (find_event g m (s.tso f) ≡ Some e) × (tso_copy e ≡ k)). let low2 : w.0.stamp < t = rw (← w.2) at low in among g m w.0 w.1 low2)
+                  (λ (w : (e : Event) × (find_event g m (s.ro f) ≡ Some e) × (ro_copy e ≡ k)). absurd (not_ro_copy w.0 (rw (← w.2) at tso))))
+                  (copy_cases g m (s.wire g f) (s.tso f) (s.ro f) k is),
+            ),
           ),
+          nothing_due s f free,
         ),
       );
       follows = central_ext _ _ refl refl refl refl (bag_moved s f kept (is_below t) stay go stays goes) (λ _ _. refl) (λ _ _ _. refl) (λ _ _ _. refl) (λ _. refl);

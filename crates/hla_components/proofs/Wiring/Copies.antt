@@ -13,12 +13,12 @@ use Rattle.hla_null_message.specs.Wires.{events}
 use Rattle.hla_components.specs.Components.{Components}
 use Rattle.hla_components.specs.Next.{put_event, event_of, with_event_accepted, with_retraction_accepted, with_wire}
 use Rattle.hla_local.specs.Arriving.{is_kept_in_order}
-use Rattle.hla_components.specs.Invariant.{EachOf, IsInSerialOrder, CopyInv, places_in}
+use Rattle.hla_components.specs.Invariant.{EachOf, IsInSerialOrder, HasRisingSerials, AreEarlier, CopyInv, places_in}
 use Rattle.hla_base.proofs.Tables.{by_number, upd_same, upd_other, upd2_same, upd2_other, upd2_each, upd_row_each, upd_row_other}
 use Rattle.hla_components.proofs.Wiring.Queues.{occurs-append, occurs-insert, occurs-one, occurs-remove}
 use Rattle.hla_components.proofs.Wiring.Wires.{events-put_event, occurs-put_event, events-event, events-retraction, occurs-event}
 use Rattle.hla_components.proofs.Wiring.Carries.{one_if_le, not_key, not_sender}
-use Rattle.hla_components.proofs.Basics.Each.{serials_below, serials-put, serials-drop, serials-remove}
+use Rattle.hla_components.proofs.Basics.Each.{EachOf-insert, EachOf-remove, serials_below, serials-put, serials-drop, serials-remove, rising-put, earlier-put, earlier-rest}
 
 abbrev pub AreCopies : Components → Type 0
 AreCopies s = CopyInv s.serial s.wire s.tso s.ro
@@ -30,11 +30,14 @@ places s g m f = places_in s.wire s.tso s.ro g m f
 pub copies_local : (s : Components) (f : ℕ) (tso ro : List Event) → AreCopies s
     → ((g m : ℕ) → occurrences g m tso + occurrences g m ro ≤ occurrences g m (s.tso f) + occurrences g m (s.ro f))
     → ((g : ℕ) → IsInSerialOrder g (ro ++ events (s.wire g f)))
+    → ((g : ℕ) → AreEarlier g (events (s.wire g f)) tso)
     → CopyInv s.serial s.wire (upd s.tso f tso) (upd s.ro f ro)
-copies_local s f tso ro c fewer order = record {
+copies_local s f tso ro c fewer order earlier = record {
   once = λ g m. by_number f _ (rw (upd_same, upd_same) (omega (arith, fewer g m, c.once g m f))) (λ k ne. rw (upd_other, upd_other) (c.once g m k));
   unused = λ g m. by_number f _ (λ new. rw (upd_same, upd_same) (omega (arith, fewer g m, c.unused g m f new))) (λ k ne new. rw (upd_other, upd_other) (c.unused g m k new));
   serials = λ g. by_number f _ (rw upd_same (order g)) (λ k ne. rw upd_other (c.serials g k));
+  rising = c.rising;
+  earlier = λ g. by_number f _ (rw upd_same (earlier g)) (λ k ne. rw upd_other (c.earlier g k));
 }
 
 -- ---- wires with the same events
@@ -43,6 +46,8 @@ copies_wires s wire same c = record {
   once = λ g m f. rw (same g f) (c.once g m f);
   unused = λ g m f new. rw (same g f) (c.unused g m f new);
   serials = λ g f. rw (same g f) (c.serials g f);
+  rising = λ g f. rw (same g f) (c.rising g f);
+  earlier = λ g f. rw (same g f) (c.earlier g f);
 }
 
 -- ---- sending
@@ -75,6 +80,17 @@ module _ (s : Components) (f : ℕ) (stamp : Option ℕ) (out : Outgoing) where
       (serials_below f (s.serial f) (s.ro k ++ events (s.wire f k)) (λ m up. omega (arith, occurs-append f m (s.ro k) (events (s.wire f k)), c.unused f m k up)))
       (c.serials f k))
 
+  -- the new one is above all others of its sender
+  put_rising : (k : ℕ) (o : Option Content) → AreCopies s → HasRisingSerials f (events (put_event f (s.serial f) (s.row f) stamp out o (s.wire f k)))
+  put_rising k None c = c.rising f k
+  put_rising k (Some x) c = let e = event_of f (s.serial f) (s.row f) stamp out x in
+      rw (events-put_event e (s.wire f k)) (rising-put f e (events (s.wire f k)) (serials_below f (s.serial f) (events (s.wire f k)) (λ m up. omega (arith, c.unused f m k up))) (c.rising f k))
+
+  put_earlier : (k : ℕ) (o : Option Content) → AreCopies s → AreEarlier f (events (put_event f (s.serial f) (s.row f) stamp out o (s.wire f k))) (s.tso k)
+  put_earlier k None c = c.earlier f k
+  put_earlier k (Some x) c = let e = event_of f (s.serial f) (s.row f) stamp out x in
+      rw (events-put_event e (s.wire f k)) (earlier-put f e (events (s.wire f k)) (s.tso k) (serials_below f (s.serial f) (s.tso k) (λ m up. omega (arith, c.unused f m k up))) (c.earlier f k))
+
   -- a key that is not the new one, or the new one
   key_new : (g m : ℕ) → ((f ≡ g) × (s.serial f ≡ m)) ⊎ ((f ≢ g) ⊎ (s.serial f ≢ m))
   key_new g m = grind (arith, nat_tests)
@@ -91,6 +107,12 @@ module _ (s : Components) (f : ℕ) (stamp : Option ℕ) (out : Outgoing) where
     serials = by_number f _
         (λ k. upd_row_each s.wire s.directory.joined f put_for (λ g k ms. f ≡ g → IsInSerialOrder f (s.ro k ++ events ms)) (λ k _ _. put_serials k (content_for s.directory out.body k) c) (λ g k e. rw (← e) (c.serials f k)) f k refl)
         (λ g ne k. rw upd_row_other (c.serials g k));
+    rising = by_number f _
+        (λ k. upd_row_each s.wire s.directory.joined f put_for (λ g k ms. f ≡ g → HasRisingSerials f (events ms)) (λ k _ _. put_rising k (content_for s.directory out.body k) c) (λ g k e. rw (← e) (c.rising f k)) f k refl)
+        (λ g ne k. rw upd_row_other (c.rising g k));
+    earlier = by_number f _
+        (λ k. upd_row_each s.wire s.directory.joined f put_for (λ g k ms. f ≡ g → AreEarlier f (events ms) (s.tso k)) (λ k _ _. put_earlier k (content_for s.directory out.body k) c) (λ g k e. rw (← e) (c.earlier f k)) f k refl)
+        (λ g ne k. rw upd_row_other (c.earlier g k));
   }
 
 -- ---- an event is carried
@@ -104,6 +126,11 @@ copies_event_came s g f e ms c front from = record {
   serials = by_number g _
       (by_number f _ (rw (upd2_same, upd_same) here) (λ l ne. let w : (g ≢ g) ⊎ (f ≢ l) = inr ne in rw (upd2_other, upd_other) (c.serials g l)))
       (λ h other. by_number f _ (let w : (g ≢ h) ⊎ (f ≢ f) = inl other in rw (upd2_other, upd_same) (there h other)) (λ l ne. let w : (g ≢ h) ⊎ (f ≢ l) = inl other in rw (upd2_other, upd_other) (c.serials h l)));
+  rising = upd2_each s.wire g f ms (λ h l ns. HasRisingSerials h (events ns)) rest_rising.1 (λ h l. c.rising h l);
+  earlier = by_number g _
+      (by_number f _ (rw (upd2_same, upd_same) (earlier_here (is_kept_in_order (s.row f) e))) (λ l ne. let w : (g ≢ g) ⊎ (f ≢ l) = inr ne in rw (upd2_other, upd_other) (c.earlier g l)))
+      (λ h other. by_number f _ (let w : (g ≢ h) ⊎ (f ≢ f) = inl other in rw (upd2_other, upd_same) (earlier_there h (is_kept_in_order (s.row f) e) other))
+      (λ l ne. let w : (g ≢ h) ⊎ (f ≢ l) = inl other in rw (upd2_other, upd_other) (c.earlier h l)));
 }
   where
     b : Bool
@@ -130,6 +157,21 @@ copies_event_came s g f e ms c front from = record {
     here : IsInSerialOrder g (cond (is_kept_in_order (s.row f) e) (s.ro f) (s.ro f ++ e ∷ []) ++ events ms)
     here = put_here (is_kept_in_order (s.row f) e) (came_ordered s g f e ms front c)
 
+    rest_rising : HasRisingSerials g (e ∷ events ms)
+    rest_rising = rw (front, events-event) at (c.rising g f)
+
+    rest_earlier : AreEarlier g (e ∷ events ms) (s.tso f)
+    rest_earlier = rw (front, events-event) at (c.earlier g f)
+
+    -- the new event was the first on its wire
+    earlier_here : (b : Bool) → AreEarlier g (events ms) (cond b (insert_event e (s.tso f)) (s.tso f))
+    earlier_here true = EachOf-insert _ e (s.tso f) rest_rising.0 (earlier-rest g e (events ms) (s.tso f) rest_earlier)
+    earlier_here false = earlier-rest g e (events ms) (s.tso f) rest_earlier
+
+    earlier_there : (h : ℕ) (b : Bool) → g ≢ h → AreEarlier h (events (s.wire h f)) (cond b (insert_event e (s.tso f)) (s.tso f))
+    earlier_there h true ne = EachOf-insert _ e (s.tso f) (λ same. absurd (ne (sym from ∙ same))) (c.earlier h f)
+    earlier_there h false ne = c.earlier h f
+
     -- for another sender the new event doesn't count
     other_put : (h : ℕ) (xs ys : List Event) → g ≢ h → IsInSerialOrder h (xs ++ ys) → IsInSerialOrder h (xs ++ e ∷ ys)
     other_put h [] ys ne a = ((λ same _. absurd (ne (sym from ∙ same))), a)
@@ -153,3 +195,4 @@ copies_retraction_came s g f m ms c front =
     copies_local (with_wire s g f ms) f (remove_event g m (s.tso f)) (remove_event g m (s.ro f)) t
     (λ h k. omega (arith, occurs-remove g m h k (s.tso f), occurs-remove g m h k (s.ro f)))
     (λ h. serials-remove h g m (s.ro f) (events (upd2 s.wire g f ms h f)) (t.serials h f))
+    (λ h. EachOf-remove _ g m (s.tso f) (t.earlier h f))

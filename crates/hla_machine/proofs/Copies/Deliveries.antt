@@ -196,11 +196,11 @@ others_step c h may w = record {
       ((step_brings c h.step h.outcome h.choice).bag g m g k is);
 }
 
-others_run : (c : Central) (hs : List Happening) (d : Central) → IsRun c hs d → OthersOnly c → OthersOnly d
+pub others_run : (c : Central) (hs : List Happening) (d : Central) → IsRun c hs d → OthersOnly c → OthersOnly d
 others_run c [] d run w = subst OthersOnly run w
 others_run c (h ∷ hs) d run w = others_run (next_state c h) hs d run.1 (others_step c h run.0.0 w)
 
-others_start : (catalogue : CatalogueValue) → OthersOnly (new_central catalogue)
+pub others_start : (catalogue : CatalogueValue) → OthersOnly (new_central catalogue)
 others_start catalogue = record { laws = laws_start catalogue; others = λ g m k is. absurd (cc) }
 
 -- what is not in the bag and has been sent does not come back
@@ -269,7 +269,7 @@ hears_of_plain : (h : Happening) (f : ℕ) (e : EventHandle) → HearsPlain h f 
 hears_of_plain h f e p = record { given = p.given; gives = p.gives; names = names_of_plain p.given e p.names }
 
 -- what waits, and was sent before, waited before, and said the same
-back_run : (c : Central) (hs : List Happening) (d : Central) (f : ℕ) (e : EventHandle) → IsRun c hs d → e.serial < c.serial e.sender → (k : Copy) → IsCopy d f e k
+pub back_run : (c : Central) (hs : List Happening) (d : Central) (f : ℕ) (e : EventHandle) → IsRun c hs d → e.serial < c.serial e.sender → (k : Copy) → IsCopy d f e k
     → (j : Copy) × IsCopy c f e j × IsLaterCopy k j
 back_run c [] d f e run low k is = (k, subst (λ (d : Central). IsCopy d f e k) (sym run) is, copy_itself k)
 back_run c (h ∷ hs) d f e run low k is =

@@ -175,10 +175,10 @@ module _ (g m f : ℕ) (k : Copy) (tso : k.order ≡ Tso) where
     done_fate : (step : Step) (a : Answer) (o : Choice) → refusal (central_seen c) step ≡ None → MayDo c step a o → Fate c kept owing is (GivesCallback step (outcome.Done a) f) (after_done c step a o)
     done_fate (Call b s) a o none may = call_fate c kept owing is (GivesCallback (Call b s) (outcome.Done a) f) b s o (caller_joined (central_seen c) b s none)
     done_fate (Carry from to) (answer.Carried x) o none may = carry_fate c kept owing is (GivesCallback (Carry from to) (outcome.Done (answer.Carried x)) f) from to x may
-    done_fate (Tick b) (answer.Ticked (Some x)) o none may = pick_fate c kept owing is (GivesCallback (Tick b) (outcome.Done (answer.Ticked (Some x))) f) b x o may (λ e. (e, refl))
+    done_fate (Tick b) (answer.Ticked (Some x)) o none may = pick_fate c kept owing is (GivesCallback (Tick b) (outcome.Done (answer.Ticked (Some x))) f) b x o may.0 (λ e. (e, refl))
     done_fate step a o none may = Stays is
 
     pub step_fate : (step : Step) (out : Outcome) (o : Choice) → MayEnd c step out o → Fate c kept owing is (GivesCallback step out f) (after c step out o)
     step_fate step (outcome.Done a) o may = done_fate step a o may.0 may.1
-    step_fate (Tick b) (outcome.Failed x) o may = pick_fate c kept owing is (GivesCallback (Tick b) (outcome.Failed x) f) b x o may.1 (λ e. (e, refl))
+    step_fate (Tick b) (outcome.Failed x) o may = pick_fate c kept owing is (GivesCallback (Tick b) (outcome.Failed x) f) b x o may.1.0 (λ e. (e, refl))
     step_fate step out o may = Stays is

@@ -57,10 +57,10 @@ level c d k e1 e2 e3 = record {
   stays = λ g m e. rw e2 e;
 }
 
-serial_up : (serial : ℕ → ℕ) (a g : ℕ) → serial g ≤ upd serial a (serial a + 1) g
+pub serial_up : (serial : ℕ → ℕ) (a g : ℕ) → serial g ≤ upd serial a (serial a + 1) g
 serial_up serial a = by_number a _ (rw upd_same (omega arith)) (λ g ne. rw upd_other (omega arith))
 
-event_fresh : (b : Bool) (e : SentEvent) → e.retracted ≡ false → (cond b e no_event).retracted ≡ false
+pub event_fresh : (b : Bool) (e : SentEvent) → e.retracted ≡ false → (cond b e no_event).retracted ≡ false
 event_fresh true e h = h
 event_fresh false e h = refl
 
@@ -148,7 +148,7 @@ cease_onward : (c : Central) (a : ℕ) (o : Choice) → AreRetractionsSound c �
 cease_onward c a (choice.Moved events) k = level c _ k refl refl refl
 cease_onward c a o k = onward_same c k
 
-is_able : (r : TimeRow) (e : SentEvent) → may_retract r e ≡ true → e.retractable ≡ true
+pub is_able : (r : TimeRow) (e : SentEvent) → may_retract r e ≡ true → e.retractable ≡ true
 is_able r e h = let p = and_parts (is_enabled r.regulating && e.retractable && not e.retracted) _ h in let q = and_parts (is_enabled r.regulating && e.retractable) _ p.0 in (and_parts (is_enabled r.regulating) e.retractable q.0).1
 
 call_onward : (c : Central) (a : ℕ) (s : Service) (o : Choice) → refusal (central_seen c) (Call a s) ≡ None → AreRetractionsSound c → Onward c (after_call c a s o)

@@ -259,7 +259,7 @@ done_turn : (c : Central) (step : Step) (a : Answer) (o : Choice) → refusal (c
 done_turn c (Join name) a o none may = Joined (record { quiet = record { due = λ _. refl; told = λ _. refl }; points = refl; notices = λ g. refl; joined = refl; next = refl })
 done_turn c (Call f s) a o none may = call_turn c f s a o none may
 done_turn c (Carry from to) (answer.Carried x) o none may = Still (record { due = λ _. refl; told = λ _. refl }) (carry_still c from to x)
-done_turn c (Tick f) (answer.Ticked (Some k)) o none may = pick_turn c (Tick f) (outcome.Done (answer.Ticked (Some k))) f k o (record { gives = (refl, refl); told = λ _. refl; due = λ _ _. refl }) may
+done_turn c (Tick f) (answer.Ticked (Some k)) o none may = pick_turn c (Tick f) (outcome.Done (answer.Ticked (Some k))) f k o (record { gives = (refl, refl); told = λ _. refl; due = λ _ _. refl }) may.0
 done_turn c (Announce f) a o none may = Still (record { due = λ _. refl; told = λ _. refl }) (still_itself c)
 done_turn c step a o none may = Still (record { due = λ _. refl; told = λ _. refl }) (still_itself c)
 
@@ -278,6 +278,6 @@ refused_still c step e o = still_itself c
 
 pub step_turn : (c : Central) (step : Step) (out : Outcome) (o : Choice) → MayEnd c step out o → PointTurn c step out (after c step out o)
 step_turn c step (outcome.Done a) o may = done_turn c step a o may.0 may.1
-step_turn c (Tick f) (outcome.Failed k) o may = pick_turn c (Tick f) (outcome.Failed k) f k o (record { gives = (refl, refl); told = λ _. refl; due = λ _ _. refl }) may.1
+step_turn c (Tick f) (outcome.Failed k) o may = pick_turn c (Tick f) (outcome.Failed k) f k o (record { gives = (refl, refl); told = λ _. refl; due = λ _ _. refl }) may.1.0
 step_turn c step (outcome.Refused e) o may = Still (refused_quiet c step e) (refused_still c step e o)
 step_turn c step (outcome.Failed k) o may = absurd may

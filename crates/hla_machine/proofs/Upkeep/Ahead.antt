@@ -19,7 +19,7 @@ use Rattle.hla_machine.specs.declared.step.Outcome.{Outcome}
 use Rattle.hla_machine.specs.declared.step.Outcome.TheVariants as outcome
 use Rattle.hla_machine.specs.declared.step.Choice.{Choice}
 use Rattle.hla_machine.specs.Central.{Central, new_central, Tso}
-use Rattle.hla_machine.specs.Callbacks.{IsCopy, MayPickIn, MayDeliver, MayPickUp, MayGrant, after_delivery, after_pick}
+use Rattle.hla_machine.specs.Callbacks.{IsCopy, IsFirstOfStamp, MayPickIn, MayDeliver, MayPickUp, MayBeGiven, IsInTurn, MayGrant, after_delivery, after_pick}
 use Rattle.hla_machine.specs.Machine.{central_seen, MayEnd, after}
 use Rattle.hla_machine.specs.Runs.{Happening, IsRun}
 use Rattle.hla_machine.specs.History.{GivesCallback, Brings, Picks, Happens, next_state}
@@ -34,19 +34,20 @@ use Rattle.hla_machine.proofs.Upkeep.Turns.{Same, Turn, Fresh, Calm, Asked, Ente
 pub record Given (c : Central) (h : Happening) (f : ℕ) (k : Callback) : Type 0 where
   pub member : c.directory.joined f ≡ true
   pub may : MayPickUp c f k h.choice
+  pub turn : IsInTurn c f k
   pub follows : next_state c h ≡ after_pick c f k h.choice
 
-given_parts : (c : Central) (step : Step) (out : Outcome) (o : Choice) (f : ℕ) (k : Callback) → MayEnd c step out o → GivesCallback step out f k → (c.directory.joined f ≡ true) × MayPickUp c f k o × (after c step out o ≡ after_pick c f k o)
+given_parts : (c : Central) (step : Step) (out : Outcome) (o : Choice) (f : ℕ) (k : Callback) → MayEnd c step out o → GivesCallback step out f k → (c.directory.joined f ≡ true) × MayBeGiven c f k o × (after c step out o ≡ after_pick c f k o)
 given_parts c (Tick g) (outcome.Done (answer.Ticked (Some x))) o f k may gives =
-    subst (λ f. (c.directory.joined f ≡ true) × MayPickUp c f k o × (after_pick c g x o ≡ after_pick c f k o)) gives.0
-    (subst (λ k. (c.directory.joined g ≡ true) × MayPickUp c g k o × (after_pick c g x o ≡ after_pick c g k o)) gives.1 (ticker_joined (central_seen c) g may.0, may.1, refl))
+    subst (λ f. (c.directory.joined f ≡ true) × MayBeGiven c f k o × (after_pick c g x o ≡ after_pick c f k o)) gives.0
+    (subst (λ k. (c.directory.joined g ≡ true) × MayBeGiven c g k o × (after_pick c g x o ≡ after_pick c g k o)) gives.1 (ticker_joined (central_seen c) g may.0, may.1, refl))
 given_parts c (Tick g) (outcome.Failed x) o f k may gives =
-    subst (λ f. (c.directory.joined f ≡ true) × MayPickUp c f k o × (after_pick c g x o ≡ after_pick c f k o)) gives.0
-    (subst (λ k. (c.directory.joined g ≡ true) × MayPickUp c g k o × (after_pick c g x o ≡ after_pick c g k o)) gives.1 (ticker_joined (central_seen c) g may.0, may.1, refl))
+    subst (λ f. (c.directory.joined f ≡ true) × MayBeGiven c f k o × (after_pick c g x o ≡ after_pick c f k o)) gives.0
+    (subst (λ k. (c.directory.joined g ≡ true) × MayBeGiven c g k o × (after_pick c g x o ≡ after_pick c g k o)) gives.1 (ticker_joined (central_seen c) g may.0, may.1, refl))
 given_parts c step out o f k may gives = absurd gives
 
 pub given_of : (c : Central) (h : Happening) (f : ℕ) (k : Callback) → MayEnd c h.step h.outcome h.choice → GivesCallback h.step h.outcome f k → Given c h f k
-given_of c h f k may gives = let p = given_parts c h.step h.outcome h.choice f k may gives in record { member = p.0; may = p.1; follows = p.2 }
+given_of c h f k may gives = let p = given_parts c h.step h.outcome h.choice f k may gives in record { member = p.0; may = p.1.0; turn = p.1.1; follows = p.2 }
 
 -- a pick in time-stamp order
 pub record Taken (c d : Central) (f : ℕ) (e : EventHandle) (s : ℕ) : Type 0 where
@@ -56,6 +57,7 @@ pub record Taken (c d : Central) (f : ℕ) (e : EventHandle) (s : ℕ) : Type 0 
   pub request : AdvanceRequest
   pub asks : (c.row f).advance ≡ Some request
   pub may : MayPickIn c f request e s
+  pub first : IsFirstOfStamp c f e s
   pub follows : d ≡ after_delivery c f e (delivery.TimeStamp s)
 
 taken_delivery : (c : Central) (f : ℕ) (x : Content) (event e : EventHandle) (y : Delivery) (s : ℕ) → MayDeliver c f x event y → event ≡ e → y ≡ delivery.TimeStamp s → Taken c (after_delivery c f event y) f e s
@@ -63,7 +65,7 @@ taken_delivery c f x event e y s may same_event same_delivery =
     subst (λ e. Taken c (after_delivery c f event y) f e s) same_event
     (let m : MayDeliver c f x event (delivery.TimeStamp s) = subst (λ y. MayDeliver c f x event y) same_delivery may in
     let w = m.3 in
-    record { body = x; constrained = m.0; copy = m.2; request = w.0; asks = w.1; may = w.2; follows = subst (λ z. after_delivery c f event y ≡ after_delivery c f event z) same_delivery refl })
+    record { body = x; constrained = m.0; copy = m.2; request = w.0; asks = w.1; may = w.2; first = m.4; follows = subst (λ z. after_delivery c f event y ≡ after_delivery c f event z) same_delivery refl })
 
 taken_pick : (c : Central) (f : ℕ) (k : Callback) (e : EventHandle) (s : ℕ) (o : Choice) → MayPickUp c f k o → Brings k e s → Taken c (after_pick c f k o) f e s
 taken_pick c f (callback.ReflectAttributeValues object values event d) e s o may is = taken_delivery c f (content.Reflection object values) event e d s may is.0 is.1

@@ -193,7 +193,7 @@ at_grant true None asked h = omega arith
 at_grant true (Some p) asked h = h p refl
 at_grant false o asked h = omega arith
 
-grant_low : (c : Central) (f : ℕ) (q : AdvanceRequest) (t : ℕ) → RowNumbers (c.row f) → (c.row f).advance ≡ Some q → MayGrant c f t q → t ≤ q.asked
+pub grant_low : (c : Central) (f : ℕ) (q : AdvanceRequest) (t : ℕ) → RowNumbers (c.row f) → (c.row f).advance ≡ Some q → MayGrant c f t q → t ≤ q.asked
 grant_low c f q t n asks may = ⊎_elim
     (λ (con : is_constrained (c.row f) ≡ true). ⊎_elim
     (λ (y : is_flush q.kind ≡ true). (grant_flush c f q t may con y).1)
@@ -351,11 +351,11 @@ done_numbers : (c : Central) (step : Step) (a : Answer) (o : Choice) → refusal
 done_numbers c (Join name) a o none may all = set_numbers c c.directory.next_federate new_row all numbers_new
 done_numbers c (Call f s) a o none may all = call_numbers c f s a o none may all
 done_numbers c (Carry from to) (answer.Carried x) o none may all = carry_numbers c from to x all
-done_numbers c (Tick f) (answer.Ticked (Some k)) o none may all = pick_numbers c all f k o may
+done_numbers c (Tick f) (answer.Ticked (Some k)) o none may all = pick_numbers c all f k o may.0
 done_numbers c step a o none may all = all
 
 -- each step keeps them
 pub numbers_after : (c : Central) (step : Step) (out : Outcome) (o : Choice) → MayEnd c step out o → AllNumbers c.row → AllNumbers (after c step out o).row
 numbers_after c step (outcome.Done a) o may all = done_numbers c step a o may.0 may.1 all
-numbers_after c (Tick f) (outcome.Failed k) o may all = pick_numbers c all f k o may.1
+numbers_after c (Tick f) (outcome.Failed k) o may all = pick_numbers c all f k o may.1.0
 numbers_after c step out o may all = all

@@ -214,12 +214,12 @@ done_keeps : (c : Central) (step : Step) (a : Answer) (o : Choice) → refusal (
 done_keeps c (Join name) a o none may k = join_keeps c name k
 done_keeps c (Call f s) a o none may k = call_keeps c f s a o none may k
 done_keeps c (Carry from to) (answer.Carried x) o none may k = carry_keeps c k from to x
-done_keeps c (Tick f) (answer.Ticked (Some x)) o none may k = pick_keeps c k f (ticker_joined (central_seen c) f none) x o may
+done_keeps c (Tick f) (answer.Ticked (Some x)) o none may k = pick_keeps c k f (ticker_joined (central_seen c) f none) x o may.0
 done_keeps c step a o none may k = k
 
 pub step_keeps : (c : Central) (step : Step) (out : Outcome) (o : Choice) → MayEnd c step out o → IsCentralKept c → IsCentralKept (after c step out o)
 step_keeps c step (outcome.Done a) o may k = done_keeps c step a o may.0 may.1 k
-step_keeps c (Tick f) (outcome.Failed x) o may k = pick_keeps c k f (ticker_joined (central_seen c) f may.0) x o may.1
+step_keeps c (Tick f) (outcome.Failed x) o may k = pick_keeps c k f (ticker_joined (central_seen c) f may.0) x o may.1.0
 step_keeps c step out o may k = k
 
 run_keeps : (c : Central) (hs : List Happening) (d : Central) → IsRun c hs d → IsCentralKept c → IsCentralKept d

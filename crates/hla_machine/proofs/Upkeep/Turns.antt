@@ -164,10 +164,10 @@ done_turn : (c : Central) (step : Step) (a : Answer) (o : Choice) → refusal (c
 done_turn c (Join name) a o none may k = join_turn c name k
 done_turn c (Call f s) a o none may k = call_turn c f s a o none may
 done_turn c (Carry from to) (answer.Carried x) o none may k = carry_turn c from to x
-done_turn c (Tick f) (answer.Ticked (Some x)) o none may k = pick_turn c k f x o may
+done_turn c (Tick f) (answer.Ticked (Some x)) o none may k = pick_turn c k f x o may.0
 done_turn c step a o none may k = λ i. Calm (same (c.row i))
 
 pub step_turn : (c : Central) (step : Step) (out : Outcome) (o : Choice) → MayEnd c step out o → IsCentralKept c → (i : ℕ) → Turn c i ((after c step out o).row i) ((after c step out o).directory.joined i)
 step_turn c step (outcome.Done a) o may k = done_turn c step a o may.0 may.1 k
-step_turn c (Tick f) (outcome.Failed x) o may k = pick_turn c k f x o may.1
+step_turn c (Tick f) (outcome.Failed x) o may k = pick_turn c k f x o may.1.0
 step_turn c step out o may k = λ i. Calm (same (c.row i))

@@ -101,10 +101,10 @@ module _ (s : Components) (f : ℕ) (q : AdvanceRequest) (t : ℕ) (is : IsLedTo
   due_facts NoPick facts = inl refl
   due_facts (PickControl k rest) facts = inr tt
   due_facts (PickRo e rest) facts = inr tt
-  due_facts PickRegulates facts = absurd (let none : (s.row f).advance ≡ None = (inv.kept.time.rows f).idle facts in let e : None ≡ Some q = sym none ∙ w.asks in cc)
-  due_facts PickConstrains facts = absurd (let none : (s.row f).advance ≡ None = (inv.kept.time.rows f).resting facts.0 in let e : None ≡ Some q = sym none ∙ w.asks in cc)
+  due_facts PickRegulates facts = absurd (let none : (s.row f).advance ≡ None = (inv.kept.time.rows f).idle facts.1 in let e : None ≡ Some q = sym none ∙ w.asks in cc)
+  due_facts PickConstrains facts = absurd (let none : (s.row f).advance ≡ None = (inv.kept.time.rows f).resting facts.1 in let e : None ≡ Some q = sym none ∙ w.asks in cc)
   due_facts (PickTso k e rest) facts = inr (taken_due e rest (subst (λ (k : AdvanceRequest). TsoFacts (s.row f) (s.tso f) (local_bound s f) k e rest) (same_request k facts.1.asks) facts.1))
-  due_facts (PickGrant k x) facts = inr (ap callback.TimeAdvanceGrant (granted_is x (subst (λ (k : AdvanceRequest). GrantFacts (s.row f) (s.tso f) (local_bound s f) k x) (same_request k facts.asks) facts)))
+  due_facts (PickGrant k x) facts = inr (ap callback.TimeAdvanceGrant (granted_is x (subst (λ (k : AdvanceRequest). GrantFacts (s.row f) (s.tso f) (local_bound s f) k x) (same_request k facts.1.asks) facts.1)))
 
   pub due_or_none : (picked_at s f ≡ NoPick) ⊎ IsDuePick (s.row f) t (IsGrantOf t) (picked_at s f)
   due_or_none = due_facts (picked_at s f) (pick_tells (s.controls f) (s.row f) (s.ro f) (s.tso f) (local_bound s f))

@@ -79,10 +79,10 @@ module _ (s : Components) (f limit u : ℕ) (c : ToConstrain f u s) where
     pick_ticks (PickControl (ToRetract e) rest) is_so facts = inr (inl ((callback.RequestRetraction e, (refl, refl), tt), goes_on _ 1 (control_less s f limit (IsConstrainedAt u) (ToRetract e) rest facts)))
     pick_ticks (PickControl (ToTell n) rest) is_so facts = inr (inl ((notice_callback n.kind n.label, (refl, refl), tt), goes_on _ 1 (told_less s f limit (IsConstrainedAt u) (points_after_notice f n s.directory.points) (ToTell n) rest facts)))
     pick_ticks (PickRo e rest) is_so facts = inr (inl ((_, (refl, refl), tt), goes_on _ 1 (ro_less s f limit (IsConstrainedAt u) e rest facts.1 (ap not facts.2))))
-    pick_ticks PickRegulates is_so facts = inr (inl ((callback.TimeRegulationEnabled (s.row f).regulation_time, (refl, refl), tt), regulated facts))
-    pick_ticks PickConstrains is_so facts = inl (callback.TimeConstrainedEnabled (s.row f).time, (refl, refl), ap callback.TimeConstrainedEnabled (let at : cond (is_pending (s.row f).regulating) (s.row f).regulation_time (s.row f).time ≡ u = c.coming in rw facts.1 at at))
+    pick_ticks PickRegulates is_so facts = inr (inl ((callback.TimeRegulationEnabled (s.row f).regulation_time, (refl, refl), tt), regulated facts.1))
+    pick_ticks PickConstrains is_so facts = inl (callback.TimeConstrainedEnabled (s.row f).time, (refl, refl), ap callback.TimeConstrainedEnabled (let at : cond (is_pending (s.row f).regulating) (s.row f).regulation_time (s.row f).time ≡ u = c.coming in rw facts.2 at at))
     pick_ticks (PickTso q e rest) is_so facts = absurd (busy q facts.1.asks)
-    pick_ticks (PickGrant q t) is_so facts = absurd (busy q facts.asks)
+    pick_ticks (PickGrant q t) is_so facts = absurd (busy q facts.1.asks)
 
     own_ticks : Ticks (next s (Tick f))
     own_ticks = let j = c.joined in rw j (pick_ticks (picked_at s f) refl (pick_tells (s.controls f) (s.row f) (s.ro f) (s.tso f) (local_bound s f)))

@@ -63,8 +63,8 @@ module _ (s : Components) (f : ℕ) (q : AdvanceRequest) (t : ℕ) (is : IsLedTo
   no_grant_pick PickConstrains facts v = let e = v.1.1 ∙ v.2.1 in cc
   no_grant_pick (PickTso k y rest) facts v = no_message _ _ y.content v.2.0 (v.1.1 ∙ v.2.1)
   no_grant_pick (PickGrant k u) facts v =
-      let both : Some k ≡ Some q = sym facts.asks ∙ w.asks in let same : k ≡ q = cc in
-      let here : GrantFacts (s.row f) (s.tso f) (local_bound s f) q u = subst (λ (k : AdvanceRequest). GrantFacts (s.row f) (s.tso f) (local_bound s f) k u) same facts in
+      let both : Some k ≡ Some q = sym facts.1.asks ∙ w.asks in let same : k ≡ q = cc in
+      let here : GrantFacts (s.row f) (s.tso f) (local_bound s f) q u = subst (λ (k : AdvanceRequest). GrantFacts (s.row f) (s.tso f) (local_bound s f) k u) same facts.1 in
       let at : u ≡ t = granted_is s f q t is w u here in
       let low : reach q.kind t ≤ local_bound s f = subst (λ u. reach q.kind u ≤ local_bound s f) at (here.reached w.constrained w.unflushed).1 in
       denied low

@@ -108,7 +108,7 @@ module _ (s : Components) (x g h : ℕ) (inv : Inv s) (ne : g ≢ h) (a : HoldsA
   pick_holds PickRegulates facts = own_row PickRegulates facts (row_after_regulation_enabled (s.row g)) refl (record { regulates = refl; constrained = a.row.constrained; floor = a.row.floor; request = a.row.request })
   pick_holds PickConstrains facts = own_row PickConstrains facts (row_after_constraint_enabled (s.row g)) refl (record { regulates = a.row.regulates; constrained = refl; floor = a.row.floor; request = a.row.request })
   pick_holds (PickTso q e rest) facts = own_row (PickTso q e rest) facts (row_after_pick (s.row g) q e.stamp) refl (record { regulates = a.row.regulates; constrained = a.row.constrained; floor = a.row.floor; request = a.row.request })
-  pick_holds (PickGrant q t) facts = own_row (PickGrant q t) facts (row_after_grant (s.row g) q t) refl (granted_row q t facts)
+  pick_holds (PickGrant q t) facts = own_row (PickGrant q t) facts (row_after_grant (s.row g) q t) refl (granted_row q t facts.1)
 
   other_pick : (k : ℕ) (p : Pick) → k ≢ g → HoldsAt (pick_outcome s k p).state x g
   other_pick k NoPick o = a

@@ -123,7 +123,7 @@ module _ (s : Components) (f : ℕ) (k : KeepsFirsts s) (inv : Inv s) where
   pick_firsts (PickControl (ToTell n) rest) facts = k
   pick_firsts (PickRo e rest) facts = k
   pick_firsts PickRegulates facts = firsts_row s k f (row_after_regulation_enabled (s.row f)) (k f)
-  pick_firsts PickConstrains facts = let early = filter (λ e. not (is_below (s.row f).time e)) (s.tso f) in firsts_both s k f (row_after_constraint_enabled (s.row f)) early (past_idle (row_after_constraint_enabled (s.row f)) early ((inv.kept.time.rows f).resting facts.0))
+  pick_firsts PickConstrains facts = let early = filter (λ e. not (is_below (s.row f).time e)) (s.tso f) in firsts_both s k f (row_after_constraint_enabled (s.row f)) early (past_idle (row_after_constraint_enabled (s.row f)) early ((inv.kept.time.rows f).resting facts.1))
   pick_firsts (PickTso q e rest) facts = firsts_both s k f (row_after_pick (s.row f) q e.stamp) rest (taken_firsts q e rest facts.1)
   pick_firsts (PickGrant q t) facts = firsts_row s k f (row_after_grant (s.row f) q t) (past_idle (row_after_grant (s.row f) q t) (s.tso f) refl)
 

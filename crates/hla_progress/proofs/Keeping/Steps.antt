@@ -110,7 +110,7 @@ module _ (s : Components) (f : ℕ) (k : KeepsPromises s) (inv : Inv s) where
   pick_keeps (PickControl (ToTell n) rest) facts = k
   pick_keeps (PickRo e rest) facts = k
   pick_keeps PickRegulates facts = keeps_row s k f (row_after_regulation_enabled (s.row f)) (λ n. absurd (cc)) (k.raised f)
-  pick_keeps PickConstrains facts = keeps_row s k f (row_after_constraint_enabled (s.row f)) (λ e. e) (raised_idle (row_after_constraint_enabled (s.row f)) ((inv.kept.time.rows f).resting facts.0))
+  pick_keeps PickConstrains facts = keeps_row s k f (row_after_constraint_enabled (s.row f)) (λ e. e) (raised_idle (row_after_constraint_enabled (s.row f)) ((inv.kept.time.rows f).resting facts.1))
   pick_keeps (PickTso q e rest) facts = keeps_row s k f (row_after_pick (s.row f) q e.stamp) (λ e. e) (k.raised f)
   pick_keeps (PickGrant q t) facts = keeps_row s k f (row_after_grant (s.row f) q t) (λ e. e) (raised_idle (row_after_grant (s.row f) q t) refl)
 

@@ -174,12 +174,12 @@ module _ (c : Central) where
   done_moves (Join name) a o owing of may = absurd of
   done_moves (Call f s) a o owing of may = absurd of
   done_moves (Carry g f) (answer.Carried x) o owing of may = carry_moves g f x owing may
-  done_moves (Tick f) (answer.Ticked (Some x)) o owing of may = pick_moves f x o may
+  done_moves (Tick f) (answer.Ticked (Some x)) o owing of may = pick_moves f x o may.0
   done_moves step a o owing of may = quiet
 
   pub round_step : (step : Step) (out : Outcome) (o : Choice) → Owing c.sent c.owed → IsOfRounds step → MayEnd c step out o → RoundStep c (after c step out o)
   round_step step (outcome.Done a) o owing of may = done_moves step a o owing of may.1
-  round_step (Tick f) (outcome.Failed x) o owing of may = pick_moves f x o may.1
+  round_step (Tick f) (outcome.Failed x) o owing of may = pick_moves f x o may.1.0
   round_step step out o owing of may = quiet
 
   -- what is announced and carried takes no unretracted copy from a constrained federate
