@@ -58,8 +58,9 @@ abbrev pub is_offered : List Offer → ℕ → ℕ → Bool
 is_offered offers g object = list_any (λ (o : Offer). eqb o.from g && eqb o.discovery.object object) offers
 
 -- ---- promises
+-- at most what f may still send, and at least its floor
 abbrev pub may_announce : List Account → ℕ → ℕ → Bool
-may_announce accounts f v = is_regulator (account_at accounts f).state && is_below_out accounts f v
+may_announce accounts f v = let r = (account_at accounts f).state in is_regulator r && leb r.floor v && is_below_out accounts f v
 
 -- what was taken from the wire from g to f
 abbrev pub may_carry : List Account → ℕ → ℕ → Carried → Bool

@@ -62,6 +62,10 @@ is_demoted_below time k = is_key_between (key_at 0 0 (delivery.Demoted 0)) (key_
 abbrev pub is_ordered_before : ℕ → ℕ → ℕ → Key → Bool
 is_ordered_before g m stamp k = is_key_between (key_at 0 0 (delivery.TimeStamp stamp)) (key_at g m (delivery.TimeStamp stamp)) k
 
+-- what goes in time-stamp order with this stamp, sent by the same sender before the message with a serial
+abbrev pub is_stamped_before : ℕ → ℕ → ℕ → Key → Bool
+is_stamped_before g m stamp k = is_key_between (key_at g 0 (delivery.TimeStamp stamp)) (key_at g m (delivery.TimeStamp stamp)) k
+
 -- what was sent in receive order by the same sender, before the message with a serial
 abbrev pub is_received_before : ℕ → ℕ → Key → Bool
 is_received_before g m k = is_key_between (key_at g 0 delivery.Receive) (key_at g m delivery.Receive) k

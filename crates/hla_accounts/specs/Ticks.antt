@@ -1,10 +1,10 @@
 -- What a federate may be given at a tick, as tests of accounts (HLA 1.3, time management)
-use Rattle.std.specs.Prelude.{ℕ, eqb, leb, ltb, not, ◌&&◌, ◌||◌, Bool, true, false, Option, List}
+use Rattle.std.specs.Prelude.{ℕ, eqb, leb, ltb, not, min, length, ◌&&◌, ◌||◌, Bool, true, false, Option, List}
 use Rattle.std.specs.List.{list_all}
 use Rattle.std.specs.Option.{option_map_or}
 use Rattle.hla_base.specs.declared.row.AdvanceRequest.{AdvanceRequest}
 use Rattle.hla_base.specs.declared.row.TimeRow.{TimeRow}
-use Rattle.hla_base.specs.Rows.{is_strict, is_next, is_flush, is_constrained, is_advancing, is_pending, grant_time, reach}
+use Rattle.hla_base.specs.Rows.{is_strict, is_next, is_flush, is_constrained, is_advancing, is_pending, least_of, grant_time, reach}
 use Rattle.hla_base.specs.declared.number.EventHandle.{EventHandle}
 use Rattle.hla_base.specs.declared.content.Content.{Content}
 use Rattle.hla_base.specs.declared.content.Content.TheVariants as content
@@ -17,11 +17,25 @@ use Rattle.hla_accounts.specs.Bags.{waiting_at, is_listed}
 use Rattle.hla_accounts.specs.Accounts.{account_at}
 use Rattle.hla_accounts.specs.Bounds.{is_retracted, ordered_stamp, is_below_all_tso, is_below_bound, has_reached}
 
+-- ---- in turn
+-- f is to be told nothing of synchronization points, and to be asked to take no message back
+abbrev pub is_nothing_due : List Account → ℕ → Bool
+is_nothing_due accounts f = let a = account_at accounts f in eqb (length a.notices) 0 && eqb (length a.due) 0
+
+-- f does not wait for a grant, or does so constrained and not in a flush
+abbrev pub is_advance_held : List Account → ℕ → Bool
+is_advance_held accounts f = let r = (account_at accounts f).state in option_map_or (λ (q : AdvanceRequest). is_constrained r && not (is_flush q.kind)) r.advance true
+
+-- a tick may give f nothing
+abbrev pub may_tick_in_vain : List Account → ℕ → Bool
+may_tick_in_vain accounts f = is_nothing_due accounts f && not (is_pending (account_at accounts f).state.regulating) && is_advance_held accounts f
+
 -- ---- grants
--- a flush is granted a time that nothing picked up or waiting is below
+-- a flush is granted a time that nothing picked up or waiting is below, and at least the least of what it asked for, its bar, and what
+-- it picked up
 abbrev pub is_flush_granted : List Account → ℕ → AdvanceRequest → ℕ → Bool
 is_flush_granted accounts f q t = let r = (account_at accounts f).state in
-    leb r.time t && leb t q.asked && option_map_or (leb t) r.flushed true && is_below_bound accounts f t && is_below_all_tso accounts f t
+    leb r.time t && leb t q.asked && option_map_or (leb t) r.flushed true && leb (least_of (min q.asked r.bar) r.flushed) t && is_below_bound accounts f t && is_below_all_tso accounts f t
 
 -- by whether the federate is constrained and whether it flushes
 abbrev pub is_granted_as : Bool → Bool → List Account → ℕ → AdvanceRequest → ℕ → Bool
@@ -48,6 +62,13 @@ is_not_earlier g m w = not (is_sent_in_receive_order w.delivery && eqb w.event.s
 
 abbrev pub is_first_ro : List Account → ℕ → ℕ → ℕ → Bool
 is_first_ro accounts f g m = list_all (is_not_earlier g m) (account_at accounts f).bag
+
+-- a message is no earlier one of the same sender in time-stamp order with this stamp
+abbrev pub is_not_earlier_of_stamp : ℕ → ℕ → ℕ → Waiting → Bool
+is_not_earlier_of_stamp g m s w = option_map_or (λ x. not (eqb x s)) (ordered_stamp w.delivery) true || not (eqb w.event.sender g && ltb w.event.serial m)
+
+abbrev pub is_first_of_stamp : List Account → ℕ → ℕ → ℕ → ℕ → Bool
+is_first_of_stamp accounts f g m s = list_all (is_not_earlier_of_stamp g m s) (account_at accounts f).bag
 
 -- a next-event request takes only stamps equal to its first pick
 abbrev pub is_at_first_pick : TimeRow → AdvanceRequest → ℕ → Bool
@@ -98,7 +119,7 @@ is_discovered accounts f (content.Removal object) = has_no_offer (account_at acc
 abbrev pub may_deliver : List Account → ℕ → ℕ → ℕ → Content → Delivery → Bool → Bool
 may_deliver accounts f g m x Receive waits = may_receive (account_at accounts f).state && is_discovered accounts f x && waits && is_first_ro accounts f g m
 may_deliver accounts f g m x (Demoted stamp) waits = may_receive (account_at accounts f).state && is_discovered accounts f x && waits
-may_deliver accounts f g m x (TimeStamp stamp) waits = is_constrained (account_at accounts f).state && is_discovered accounts f x && waits && may_pick_now accounts f g m stamp
+may_deliver accounts f g m x (TimeStamp stamp) waits = is_constrained (account_at accounts f).state && is_discovered accounts f x && waits && may_pick_now accounts f g m stamp && is_first_of_stamp accounts f g m stamp
 
 -- ---- becoming constrained
 -- the event waits in time-stamp order, with a stamp below the time

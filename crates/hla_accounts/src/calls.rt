@@ -201,13 +201,16 @@ impl Accounts {
         }
     }
 
-    /// Whether a federate may announce this promise, in ticks: it regulates or has asked to, and may send nothing below it.
+    /// Whether a federate may announce this promise, in ticks: it regulates or has asked to, may send nothing below the promise,
+    /// and has no floor above it.
     pub fn may_announce(&self, federate: FederateNo, promise: Ticks) -> bool
         ensures { result ≡ may_announce self.now federate promise }
     {
         match self.get(federate) {
             Some(account) => {
-                account.state.is_regulator() && self.is_below_out(federate, promise)
+                account.state.is_regulator()
+                    && account.state.floor() <= promise
+                    && self.is_below_out(federate, promise)
             }
             None => false,
         }

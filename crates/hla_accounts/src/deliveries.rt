@@ -90,6 +90,7 @@ impl Accounts {
                     && is_discovered
                     && waits
                     && self.may_pick_now(federate, event, stamp)
+                    && self.is_first_of_stamp(federate, event, stamp)
             }
         }
     }

@@ -1,6 +1,6 @@
 //! Events, each as often as it was added.
 
-ghost use Rattle.std.specs.Prelude.{◌≡◌, ℕ, ◌+◌, ◌-◌, [], cond, OnOk, OnErr, IfErr};
+ghost use Rattle.std.specs.Prelude.{◌≡◌, ℕ, ◌+◌, ◌-◌, [], cond, eqb, length, OnOk, OnErr, IfErr};
 ghost use Rattle.std.specs.List.{position};
 ghost use Rattle.hla_base.specs.declared.fault.Fault.TheVariants.{OutOfMemory};
 ghost use Rattle.hla_base.specs.Tables.{one_if};
@@ -36,6 +36,13 @@ impl Handles {
         Handles {
             events: Vec::new(alloc),
         }
+    }
+
+    /// Whether there is none.
+    pub fn is_empty(&self) -> bool
+        ensures { result ≡ eqb (length self.now) 0 }
+    {
+        self.events.is_empty()
     }
 
     /// Whether an event is there. It looks at each.

@@ -6,7 +6,7 @@ ghost use Rattle.std.specs.BTreeMap.Range.{IsLeBy};
 ghost use Rattle.hla_base.specs.Tables.{upd2};
 ghost use Rattle.hla_callbacks.specs.declared.callback.Delivery.{Delivery};
 ghost use Rattle.hla_accounts.specs.Bags.{AreApart};
-ghost use Rattle.hla_accounts.specs.Indexes.{rank_of, delivery_stamp, key_at, waiting_key_cmp, is_key_between, is_ordered_below, is_demoted_below, is_ordered_before, is_received_before, delivery_at, HasNamesOf, IsIndexOf};
+ghost use Rattle.hla_accounts.specs.Indexes.{rank_of, delivery_stamp, key_at, waiting_key_cmp, is_key_between, is_ordered_below, is_demoted_below, is_ordered_before, is_stamped_before, is_received_before, delivery_at, HasNamesOf, IsIndexOf};
 
 use crate::bag::Waiting;
 use hla_base::{EventHandle, FederateNo, Serial, Ticks};
@@ -309,6 +309,20 @@ impl Index {
             Key::least(Delivery::TimeStamp { stamp }),
             Key::of(event, Delivery::TimeStamp { stamp }),
         )
+    }
+
+    /// The keys of what the sender of an event sent before it and is to be given in time-stamp order with this stamp, in ticks.
+    pub fn stamped_before(&self, event: EventHandle, stamp: Ticks) -> Range<'_, Key>
+        ensures keys { result
+            ≡ filter (is_stamped_before event.sender event.serial stamp) self.now.keys.keys }
+        ensures runs { ShowsInOrder (deref {X = Key}) }
+    {
+        let first = EventHandle {
+            sender: event.sender,
+            serial: 0,
+        };
+        let delivery = Delivery::TimeStamp { stamp };
+        self.between(Key::of(first, delivery), Key::of(event, delivery))
     }
 
     /// The keys of what the sender of an event sent before it in receive order.

@@ -1,6 +1,6 @@
 //! What federates are to be told of synchronization points (HLA 1.3, federation management).
 
-ghost use Rattle.std.specs.Prelude.{◌≡◌, ◌↔◌, ◌≤◌, ◌<◌, ◌++◌, ◌∷◌, [], drop, length, IsTrue, OnOk, OnErr, IfErr};
+ghost use Rattle.std.specs.Prelude.{◌≡◌, ◌↔◌, ◌≤◌, ◌<◌, ◌++◌, ◌∷◌, [], drop, eqb, length, IsTrue, OnOk, OnErr, IfErr};
 ghost use Rattle.hla_base.specs.declared.fault.Fault.TheVariants.{OutOfMemory};
 ghost use Rattle.hla_base.specs.Tables.{upd};
 ghost use Rattle.hla_machine.specs.Directory.{Directory};
@@ -34,6 +34,13 @@ impl Notices {
         ensures { result ≡ notices.items }
     {
         Notices { notices }
+    }
+
+    /// Whether there is none.
+    pub fn is_empty(&self) -> bool
+        ensures { result ≡ eqb (length self.now) 0 }
+    {
+        self.notices.is_empty()
     }
 
     /// Whether this is what is told next.

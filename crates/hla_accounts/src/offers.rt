@@ -165,21 +165,4 @@ impl Accounts {
     {
         self.accounts[federate as usize - 1].offers.take_first(from);
     }
-
-    /// A discovery waits for a federate, behind the others. `OutOfMemory` where a growth was refused; nothing is said of
-    /// the accounts then.
-    pub fn add_offer(&mut self, federate: FederateNo, offer: Offer) -> Result<(), Fault>
-        requires some { 0 < federate }
-        requires within { federate ≤ length self.old }
-        ensures ok { OnOk result
-            ((d : Directory)
-            → let c = central_with d self.old in central_with d self.new
-            ≡ record c {
-              discoveries = upd2 c.discoveries offer.from federate
-                  (c.discoveries offer.from federate ++ offer.discovery ∷ []);
-            }) }
-        ensures err { IfErr result (λ e. e ≡ Fault.OutOfMemory) }
-    {
-        self.accounts[federate as usize - 1].offers.add(offer)
-    }
 }

@@ -1,13 +1,13 @@
 //! What a federate may be given at a tick, as tests of accounts (HLA 1.3, time management).
 
-ghost use Rattle.std.specs.Prelude.{◌≡◌, ◌≤◌, Some, List, take};
+ghost use Rattle.std.specs.Prelude.{◌≡◌, ◌≤◌, min, Some, List, take};
 ghost use Rattle.std.specs.List.{list_all};
 ghost use Rattle.hla_base.specs.Limits.{max_time};
-ghost use Rattle.hla_base.specs.Rows.{grant_time, is_constrained, is_flush, RowNumbers};
+ghost use Rattle.hla_base.specs.Rows.{grant_time, is_constrained, is_flush, least_of, RowNumbers};
 ghost use Rattle.hla_accounts.specs.Accounts.{account_at};
 ghost use Rattle.hla_accounts.specs.declared.bag.Waiting.{Waiting};
 ghost use Rattle.hla_accounts.specs.Indexes.{IsIndexingOf};
-ghost use Rattle.hla_accounts.specs.Ticks.{is_flush_granted, is_granted_as, may_grant, may_receive, is_sent_in_receive_order, is_not_earlier, is_first_ro, is_at_first_pick, is_key_le, is_not_before, is_first_key, may_pick, may_pick_now};
+ghost use Rattle.hla_accounts.specs.Ticks.{is_nothing_due, is_advance_held, may_tick_in_vain, is_flush_granted, is_granted_as, may_grant, may_receive, is_not_earlier, is_first_ro, is_not_earlier_of_stamp, is_first_of_stamp, is_at_first_pick, is_key_le, is_not_before, is_first_key, may_pick, may_pick_now};
 
 use crate::accounts::Accounts;
 use crate::bag::Waiting;
@@ -30,6 +30,17 @@ fn grant_time(row: &TimeRow, request: AdvanceRequest) -> Ticks
     match row.first_pick {
         Some(pick) if request.kind.is_next() && is_constrained(row) => pick,
         _ => request.asked,
+    }
+}
+
+/// The least time, in ticks, that a flush may be granted: the least of what it asked for, its bar, and what it picked up.
+fn least_flush_time(row: &TimeRow, request: AdvanceRequest) -> Ticks
+    ensures { result ≡ least_of (min request.asked row.now.bar) row.now.flushed }
+{
+    let held = request.asked.min(row.bar);
+    match row.flushed {
+        Some(least) => held.min(least),
+        None => held,
     }
 }
 
@@ -82,6 +93,43 @@ fn is_first_indexed_ro(indexing: &Indexing, event: EventHandle) -> bool
     }
 }
 
+/// Whether a message is no earlier one of the same sender in time-stamp order with this stamp, in ticks.
+fn is_not_earlier_of_stamp(event: EventHandle, stamp: Ticks, waiting: &Waiting) -> bool
+    ensures { result ≡ is_not_earlier_of_stamp event.sender event.serial stamp waiting.now }
+{
+    match ordered_stamp(waiting.delivery) {
+        Some(other) => {
+            other != stamp
+                || waiting.event.sender != event.sender
+                || waiting.event.serial >= event.serial
+        }
+        None => true,
+    }
+}
+
+/// Whether none of these messages is an earlier one of the same sender in time-stamp order with this stamp, in ticks. It looks
+/// at each.
+fn are_not_earlier_of_stamp(event: EventHandle, stamp: Ticks, waiting: &[Waiting]) -> bool
+    ensures { result
+        ≡ list_all (is_not_earlier_of_stamp event.sender event.serial stamp) waiting.now }
+{
+    waiting
+        .iter()
+        .all(|waiting| is_not_earlier_of_stamp(event, stamp, waiting))
+}
+
+/// Whether an index has no earlier message of the same sender in time-stamp order with this stamp, in ticks.
+fn is_first_indexed_of_stamp(indexing: &Indexing, event: EventHandle, stamp: Ticks) -> bool
+    ensures { (ws : List Waiting) → IsIndexingOf ws indexing.now
+        → result ≡ list_all (is_not_earlier_of_stamp event.sender event.serial stamp)
+        (take indexing.now.count ws) }
+{
+    match &indexing.index {
+        Some(index) => index.stamped_before(event, stamp).next().is_none(),
+        None => true,
+    }
+}
+
 /// Whether of two events with one stamp the first is not behind the second.
 fn is_key_le(first: EventHandle, second: EventHandle) -> bool
     ensures { result ≡ is_key_le first.sender first.serial second.sender second.serial }
@@ -90,6 +138,31 @@ fn is_key_le(first: EventHandle, second: EventHandle) -> bool
 }
 
 impl Accounts {
+    /// Whether a federate is to be told nothing of synchronization points, and to be asked to take no message back.
+    pub fn is_nothing_due(&self, federate: FederateNo) -> bool
+        ensures { result ≡ is_nothing_due self.now federate }
+    {
+        match self.get(federate) {
+            Some(account) => account.notices.is_empty() && account.due.is_empty(),
+            None => true,
+        }
+    }
+
+    /// Whether a tick may give a federate nothing: nothing is due to it, and it does not wait to regulate, nor unconstrained for
+    /// a grant, nor in a flush.
+    pub fn may_tick_in_vain(&self, federate: FederateNo) -> bool
+        ensures { result ≡ may_tick_in_vain self.now federate }
+    {
+        let Some(account) = self.get(federate) else {
+            return true;
+        };
+        let is_advance_held = match account.state.advance() {
+            Some(request) => account.state.is_constrained() && !request.kind.is_flush(),
+            None => true,
+        };
+        self.is_nothing_due(federate) && !account.state.is_regulation_pending() && is_advance_held
+    }
+
     /// Whether no earlier message of the same sender waits for a federate in receive order. The time grows with the logarithm
     /// of what is in the index of what waits for the federate, and with what was put since a message was taken out.
     pub fn is_first_ro(&self, federate: FederateNo, event: EventHandle) -> bool
@@ -103,7 +176,21 @@ impl Accounts {
         is_first_indexed_ro(indexing, event) && are_not_earlier(event, tail)
     }
 
-    /// Whether a flush is granted a time, in ticks, that nothing picked up or waiting is below.
+    /// Whether no earlier message of the same sender waits for a federate in time-stamp order with this stamp, in ticks. It takes
+    /// the time of `is_first_ro`.
+    pub fn is_first_of_stamp(&self, federate: FederateNo, event: EventHandle, stamp: Ticks) -> bool
+        ensures { result ≡ is_first_of_stamp self.now federate event.sender event.serial stamp }
+    {
+        let Some(account) = self.get(federate) else {
+            return true;
+        };
+        let indexing = account.bag.indexing();
+        let tail = indexing.tail(account.bag.as_slice());
+        is_first_indexed_of_stamp(indexing, event, stamp) && are_not_earlier_of_stamp(event, stamp, tail)
+    }
+
+    /// Whether a flush is granted a time, in ticks, that nothing picked up or waiting is below, and that is at least the least
+    /// that it may be granted.
     fn is_flush_granted(
         &self,
         federate: FederateNo,
@@ -121,6 +208,7 @@ impl Accounts {
         row.time <= time
             && time <= request.asked
             && is_flushed_below
+            && least_flush_time(row, request) <= time
             && self.is_below_bound(federate, time)
             && self.is_below_all_tso(federate, time)
     }

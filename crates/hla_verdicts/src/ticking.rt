@@ -7,14 +7,15 @@ ghost use Rattle.hla_base.specs.Rows.{is_pending, RowNumbers};
 ghost use Rattle.hla_object_registry.specs.Registered.{registry_of};
 ghost use Rattle.hla_synchronization.specs.OpenPoints.{points_of};
 ghost use Rattle.hla_machine.specs.Directory.{Directory, with_points};
-ghost use Rattle.hla_machine.specs.Callbacks.{MayGrant, WhileAdvancing};
+ghost use Rattle.hla_machine.specs.Callbacks.{MayGrant, WhileAdvancing, IsInTurn, MayTickInVain};
 ghost use Rattle.hla_machine.specs.Machine.{IsChoice, MayDo, after_done};
+ghost use Rattle.hla_machine.specs.declared.step.Choice.TheVariants as choices;
 ghost use Rattle.hla_machine.specs.declared.step.Outcome.TheVariants as outcomes;
 ghost use Rattle.hla_machine.specs.declared.step.Step.TheVariants as steps;
 ghost use Rattle.hla_callbacks.specs.declared.callback.Callback.TheVariants as callbacks;
 ghost use Rattle.hla_accounts.specs.Accounts.{account_at, central_with};
 ghost use Rattle.hla_verdicts.specs.Kinds.{IsPlainPick};
-ghost use Rattle.hla_verdicts.specs.Accounted.{JudgedAmong, JudgedPick};
+ghost use Rattle.hla_verdicts.specs.Accounted.{JudgedAmong, JudgedPick, JudgedGiven};
 ghost use Rattle.hla_verdicts.specs.Notices.{notice_in};
 ghost use Rattle.hla_verdicts.specs.Verdicts.{Judged};
 
@@ -78,6 +79,37 @@ fn may_be_asked(accounts: &Accounts, federate: FederateNo, event: EventHandle) -
         (1 ≤ (central_with d accounts.now).due event.sender event.serial federate) }
 {
     accounts.is_due(federate, event)
+}
+
+/// Whether a callback is in turn for a federate: what it is to be told of synchronization points, and to be asked to take back,
+/// goes ahead of messages, roles and grants.
+fn is_in_turn(accounts: &Accounts, federate: FederateNo, callback: &Callback) -> bool
+    ensures { (d : Directory)
+        → Decides result (IsInTurn (central_with d accounts.now) federate callback.now) }
+{
+    match callback {
+        Callback::ReflectAttributeValues { .. }
+        | Callback::ReceiveInteraction { .. }
+        | Callback::RemoveObjectInstance { .. }
+        | Callback::TimeRegulationEnabled { .. }
+        | Callback::TimeConstrainedEnabled { .. }
+        | Callback::TimeAdvanceGrant { .. } => accounts.is_nothing_due(federate),
+        Callback::DiscoverObjectInstance { .. }
+        | Callback::RequestRetraction { .. }
+        | Callback::SynchronizationPointRegistrationSucceeded { .. }
+        | Callback::SynchronizationPointRegistrationFailed { .. }
+        | Callback::AnnounceSynchronizationPoint { .. }
+        | Callback::FederationSynchronized { .. } => true,
+    }
+}
+
+/// Whether a tick may give a federate nothing, with this choice.
+fn may_give_nothing(accounts: &Accounts, federate: FederateNo, choice: &Choice) -> bool
+    ensures { (d : Directory)
+        → Decides result
+        (MayTickInVain (central_with d accounts.now) federate × (choice.now ≡ choices.None)) }
+{
+    is_nothing(choice) && accounts.may_tick_in_vain(federate)
 }
 
 /// Whether a joined federate may be told that it regulates; where it may, it does.
@@ -187,8 +219,9 @@ fn judge_plain_pick(
     }
 }
 
-/// Whether a joined federate may be given a callback that tells nothing of synchronization points, with this choice; where it
-/// may, it has picked it up. The registry says whose an object is. `OutOfMemory` where a growth was refused.
+/// Whether a joined federate may be given a callback that tells nothing of synchronization points, be it in turn or not, with
+/// this choice; where it may, it has picked it up. The registry says whose an object is. `OutOfMemory` where a growth was
+/// refused.
 fn judge_pick(
     accounts: &mut Accounts,
     registry: &Registry,
@@ -266,11 +299,14 @@ fn judge_callback(
     ensures ok { IfOk result
         (λ v. (d : Directory) → d.object ≡ (registry_of registry.now).object
         → d.points ≡ points_of points.old
-        → JudgedPick (central_with d accounts.old) federate callback.now choice.now
+        → JudgedGiven (central_with d accounts.old) federate callback.now choice.now
         (central_with (with_points d (points_of points.new)) accounts.new) v) }
     ensures err { IfErr result (λ e. e ≡ Fault.OutOfMemory) }
     ensures size { length accounts.new ≡ length accounts.old }
 {
+    if !is_in_turn(accounts, federate, callback) {
+        return Ok(Verdict::Wrong);
+    }
     let told = notice_in(callback)?;
     match told {
         Some(notice) => Ok(judge_notice(accounts, points, federate, &notice, choice)),
@@ -311,7 +347,7 @@ fn judge_answer(
                 )?;
                 Ok(verdict)
             }
-            None => Ok(Verdict::of(is_nothing(choice))),
+            None => Ok(Verdict::of(may_give_nothing(accounts, federate, choice))),
         },
         Answer::Done => Ok(Verdict::Wrong),
         Answer::Federate(_) => Ok(Verdict::Wrong),

@@ -20,9 +20,9 @@ use Rattle.hla_accounts.specs.declared.index.Name.{Name}
 use Rattle.hla_accounts.specs.declared.index.Index.{Index}
 use Rattle.hla_accounts.specs.Bags.{is_listed, AreApart}
 use Rattle.hla_accounts.specs.Bounds.{is_retracted, ordered_stamp, demoted_stamp, is_at_most_waiting}
-use Rattle.hla_accounts.specs.Ticks.{is_among_if_below, is_sent_in_receive_order, is_not_earlier, is_key_le, is_not_before}
+use Rattle.hla_accounts.specs.Ticks.{is_among_if_below, is_sent_in_receive_order, is_not_earlier, is_not_earlier_of_stamp, is_key_le, is_not_before}
 use Rattle.hla_accounts.specs.Calls.{is_at_most_demoted}
-use Rattle.hla_accounts.specs.Indexes.{waiting_name_cmp, HasNamesOf, key_at, is_ordered_below, is_demoted_below, is_ordered_before, is_received_before, delivery_at, IsIndexOf}
+use Rattle.hla_accounts.specs.Indexes.{waiting_name_cmp, HasNamesOf, key_at, is_ordered_below, is_demoted_below, is_ordered_before, is_stamped_before, is_received_before, delivery_at, IsIndexOf}
 use Rattle.hla_accounts.proofs.Indexes.Ranges.{all_in_range}
 
 abbrev pub is_key_retracted : List Account → Key → Bool
@@ -87,6 +87,15 @@ serials_before g m h n = by (ltb g h) (eqb g h) refl refl
     by true e a b = let no : eqb h g ≡ false = grind (arith, nat_tests) in ap (λ b. b && ltb n m) (sym no)
     by false true a b = let yes_it : eqb h g ≡ true = grind (arith, nat_tests) in ap (λ b. b && not (is_le (nat_cmp m n))) (le_zero n) ∙ last ∙ ap (λ b. b && ltb n m) (sym yes_it)
     by false false a b = let no : eqb h g ≡ false = grind (arith, nat_tests) in ap (λ b. b && ltb n m) (sym no)
+
+own_before : (z s g m h n : ℕ) → (is_le (ordering_then (nat_cmp z s) (ordering_then (nat_cmp g h) (nat_cmp 0 n))) && not (is_le (ordering_then (nat_cmp z s) (ordering_then (nat_cmp g h) (nat_cmp m n))))) ≡ (eqb s z && (eqb h g && ltb n m))
+own_before z s g m h n = by (ltb z s) (eqb z s) refl refl
+  where
+    by : (l e : Bool) → ltb z s ≡ l → eqb z s ≡ e →
+        (is_le (ordering_then (cond l Less (cond e Equal Greater)) (ordering_then (nat_cmp g h) (nat_cmp 0 n))) && not (is_le (ordering_then (cond l Less (cond e Equal Greater)) (ordering_then (nat_cmp g h) (nat_cmp m n))))) ≡ (eqb s z && (eqb h g && ltb n m))
+    by true e a b = let no : eqb s z ≡ false = grind (arith, nat_tests) in ap (λ b. b && (eqb h g && ltb n m)) (sym no)
+    by false true a b = let yes_it : eqb s z ≡ true = grind (arith, nat_tests) in serials_before g m h n ∙ ap (λ b. b && (eqb h g && ltb n m)) (sym yes_it)
+    by false false a b = let no : eqb s z ≡ false = grind (arith, nat_tests) in ap (λ b. b && (eqb h g && ltb n m)) (sym no)
 
 -- ---- the tests
 or_true : (r : Bool) → (r || true) ≡ true
@@ -175,6 +184,19 @@ received_keys g m i ws kept apart = all_in_range i ws kept apart (is_not_earlier
     by h n Receive = none (eqb h g && ltb n m) ∙ ap (λ b. not b || false) (sym (serials_before g m h n))
     by h n (Demoted s) = refl
     by h n (TimeStamp s) = refl
+
+pub stamped_keys : (g m z : ℕ) (i : Index) (ws : List Waiting) → IsIndexOf i (delivery_at ws) → AreApart ws → list_all (is_not_earlier_of_stamp g m z) ws ≡ list_all (λ _. false) (filter (is_stamped_before g m z) i.keys.keys)
+stamped_keys g m z i ws kept apart = all_in_range i ws kept apart (is_not_earlier_of_stamp g m z) (is_stamped_before g m z) (λ _. false) (λ w. by w.event.sender w.event.serial w.delivery)
+  where
+    none : (a b : Bool) → (not a || not b) ≡ (not (a && b) || false)
+    none true true = refl
+    none true false = refl
+    none false b = refl
+
+    by : (h n : ℕ) (d : Delivery) → (option_map_or (λ x. not (eqb x z)) (ordered_stamp d) true || not (eqb h g && ltb n m)) ≡ (not (is_stamped_before g m z (key_at h n d)) || false)
+    by h n Receive = refl
+    by h n (Demoted s) = refl
+    by h n (TimeStamp s) = none (eqb s z) (eqb h g && ltb n m) ∙ ap (λ b. not b || false) (sym (own_before z s g m h n))
 
 -- none is taken from a list exactly where nothing is in it
 pub none_taken : (ks rest : List Key) (r : Option (Bor Key)) (b : Bool) → TakesFirst (deref {X = Key}) ks r rest → is_some r ≡ not b → b ≡ list_all (λ _. false) ks

@@ -164,7 +164,10 @@ module _ (d : Directory) (accounts : List Account) (kept : AreKept accounts) whe
       (λ e. in_order_decided (waiting_at (account_at accounts f).bag e.sender e.serial)) refl (λ _ _. refl) events
 
   pub may_announce_decided : (f v : ℕ) → Decides (may_announce accounts f v) (MayAnnounce (central_with d accounts) f (Some v))
-  may_announce_decided f v = Decides-and (is_regulator (account_at accounts f).state) (is_below_out accounts f v) (λ e. e, λ e. e) (below_out_decided d accounts f v (kept.apart f))
+  may_announce_decided f v =
+      let r = (account_at accounts f).state in
+      Decides-like (may_announce accounts f v) (λ p. (p.0.0, p.1, p.0.1)) (λ p. ((p.0, p.2), p.1))
+      (Decides-and _ (is_below_out accounts f v) (Decides-and (is_regulator r) (leb r.floor v) (λ e. e, λ e. e) (Decides-leb r.floor v)) (below_out_decided d accounts f v (kept.apart f)))
 
   -- a copy from g
   pub carried_copy_decided : (g f : ℕ) (e : EventHandle) (removal : Bool) → Decides (eqb e.sender g && is_carried removal (waiting_at (account_at accounts f).bag e.sender e.serial)) (IsCarriedCopy (central_with d accounts) g f e removal)

@@ -1,5 +1,5 @@
 -- Tests of accounts decide what a federate may be given at a tick
-use Rattle.std.proofs.Common.{◌≡◌, ◌≢◌, ◌⊎◌, ℕ, ◌<◌, ◌≤◌, eqb, leb, ltb, ◌&&◌, ◌||◌, not, Bool, true, false, List, [], ◌∷◌, Option, Some, None, option_map, IfSome, refl, sym, ◌∙◌, subst, inl, inr, ⊎_elim, arith}
+use Rattle.std.proofs.Common.{◌+◌, ◌≡◌, ◌≢◌, ◌⊎◌, ℕ, ◌<◌, ◌≤◌, min, length, eqb, leb, ltb, ◌&&◌, ◌||◌, not, Bool, true, false, List, [], ◌∷◌, Option, Some, None, option_map, IfSome, refl, sym, ap, ◌∙◌, subst, inl, inr, ⊎_elim, arith}
 use mathlib.Core.Bool.{false≢true, true≢false}
 use Rattle.std.specs.Bool.{Decides}
 use Rattle.std.specs.List.{list_all, All, cons_option}
@@ -10,24 +10,25 @@ use Rattle.hla_base.specs.declared.number.EventHandle.{EventHandle}
 use Rattle.hla_base.specs.declared.content.Content.{Content}
 use Rattle.hla_base.specs.declared.content.Content.TheVariants as content
 use Rattle.hla_base.specs.declared.content.Discovery.{Discovery}
-use Rattle.hla_base.specs.Tables.{when}
+use Rattle.hla_base.specs.declared.notice.Notice.{Notice}
+use Rattle.hla_base.specs.Tables.{when, one_if}
 use Rattle.hla_base.specs.declared.row.AdvanceRequest.{AdvanceRequest}
 use Rattle.hla_base.specs.declared.row.TimeRow.{TimeRow}
-use Rattle.hla_base.specs.Rows.{is_strict, is_next, is_flush, is_constrained, is_advancing, is_pending, grant_time, reach}
+use Rattle.hla_base.specs.Rows.{is_strict, is_next, is_flush, is_constrained, is_advancing, is_pending, least_of, grant_time, reach}
 use Rattle.hla_callbacks.specs.declared.callback.Delivery.{Delivery}
 use Rattle.hla_callbacks.specs.declared.callback.Delivery.TheVariants.{Receive, Demoted, TimeStamp}
 use Rattle.hla_machine.specs.Directory.{Directory}
 use Rattle.hla_machine.specs.Central as machine
-use Rattle.hla_machine.specs.Central.{Copy, Ro, Tso, KeyLe, BelowBound, BelowAllTso}
+use Rattle.hla_machine.specs.Central.{Copy, Ro, Tso, is_key, KeyLe, BelowBound, BelowAllTso}
 use Rattle.hla_machine.specs.declared.step.Choice.TheVariants as choice
-use Rattle.hla_machine.specs.Callbacks.{IsDiscovered, IsCopy, MayDeliver, MayConstrain, AreBelow, is_among, MayReceive, IsFirstRo, IsAtFirstPick, IsLeastKey, MayPick, MayPickIn, WhileAdvancing, MayGrantFlush, MayGrantAs, MayGrant}
+use Rattle.hla_machine.specs.Callbacks.{NothingIsDue, MayTickInVain, IsDiscovered, IsCopy, MayDeliver, MayConstrain, AreBelow, is_among, MayReceive, IsFirstRo, IsFirstOfStamp, IsAtFirstPick, IsLeastKey, MayPick, MayPickIn, WhileAdvancing, MayGrantFlush, MayGrantAs, MayGrant}
 use Rattle.hla_accounts.specs.declared.account.Account.{Account}
 use Rattle.hla_accounts.specs.declared.offers.Offer.{Offer}
 use Rattle.hla_accounts.specs.declared.bag.Waiting.{Waiting}
 use Rattle.hla_accounts.specs.Bags.{waiting_at, is_listed}
-use Rattle.hla_accounts.specs.Accounts.{account_at, offers_from, copy_of, copy_given, copy_at, central_with, AreKept}
+use Rattle.hla_accounts.specs.Accounts.{account_at, offers_from, times_listed, copy_of, copy_given, copy_at, central_with, AreKept}
 use Rattle.hla_accounts.specs.Bounds.{is_retracted, ordered_stamp, is_below_all_tso, is_below_bound, has_reached}
-use Rattle.hla_accounts.specs.Ticks.{is_flush_granted, is_granted_as, may_grant, may_receive, is_sent_in_receive_order, is_not_earlier, is_first_ro, is_at_first_pick, is_key_le, is_not_before, is_least_key, may_pick, may_pick_as, may_pick_now, has_no_offer, is_discovered, may_deliver, is_moved_below, is_among_if_below, are_below, may_constrain}
+use Rattle.hla_accounts.specs.Ticks.{is_nothing_due, is_advance_held, may_tick_in_vain, is_flush_granted, is_granted_as, may_grant, may_receive, is_sent_in_receive_order, is_not_earlier, is_first_ro, is_not_earlier_of_stamp, is_first_of_stamp, is_at_first_pick, is_key_le, is_not_before, is_least_key, may_pick, may_pick_as, may_pick_now, has_no_offer, is_discovered, may_deliver, is_moved_below, is_among_if_below, are_below, may_constrain}
 use Rattle.hla_accounts.proofs.Tests.Bounds.{each_decided, Decides-leb, below_all_tso_decided, below_bound_decided, reached_decided}
 
 -- ---- tests of optional values
@@ -45,6 +46,44 @@ while_decided r P test each = by r.advance refl
     by : (o : Option AdvanceRequest) → r.advance ≡ o → Decides (option_map_or test o false) (WhileAdvancing r P)
     by None is = (λ e. absurd (false≢true e), λ w. absurd (let e : None ≡ Some w.0 = sym is ∙ w.1 in cc))
     by (Some q) is = (λ e. (q, is, (each q).0 e), λ w. (each q).1 (let same : w.0 ≡ q = (let e : Some w.0 ≡ Some q = sym w.1 ∙ is in cc) in subst P same w.2))
+
+not_decided : (b : Bool) → Decides (not b) (b ≡ false)
+not_decided true = (λ e. absurd (false≢true e), λ e. absurd (true≢false e))
+not_decided false = (λ e. refl, λ e. refl)
+
+-- ---- what is due, and what a federate waits for
+none_told_decided : (notices : List Notice) → Decides (eqb (length notices) 0) (notices ≡ [])
+none_told_decided [] = (λ e. refl, λ e. refl)
+none_told_decided (n ∷ ns) = (λ e. absurd (grind (arith, nat_tests)), λ e. absurd (let none : length (n ∷ ns) ≡ 0 = ap length e in omega arith))
+
+none_listed_decided : (events : List EventHandle) → Decides (eqb (length events) 0) ((g m : ℕ) → times_listed events g m ≡ 0)
+unfolding times_listed
+none_listed_decided [] = (λ e g m. refl, λ h. refl)
+none_listed_decided (e ∷ es) = (λ t. absurd (grind (arith, nat_tests)), λ h. absurd (by (is_key e.sender e.serial e.sender e.serial) (grind (arith, nat_tests)) (h e.sender e.serial)))
+  where
+    by : (b : Bool) → b ≡ true → one_if b + times_listed es e.sender e.serial ≡ 0 → ⊥
+    by true own none = absurd (omega arith)
+    by false own none = false≢true own
+
+pub nothing_due_decided : (d : Directory) (accounts : List Account) (f : ℕ) → Decides (is_nothing_due accounts f) (NothingIsDue (central_with d accounts) f)
+nothing_due_decided d accounts f =
+    let a = account_at accounts f in
+    Decides-like (is_nothing_due accounts f) (λ p. record { told = p.0; asked = p.1 }) (λ n. (n.told, n.asked))
+    (Decides-and (eqb (length a.notices) 0) (eqb (length a.due) 0) (none_told_decided a.notices) (none_listed_decided a.due))
+
+advance_held_decided : (con : Bool) (o : Option AdvanceRequest) → Decides (option_map_or (λ (q : AdvanceRequest). con && not (is_flush q.kind)) o true) ((q : AdvanceRequest) → o ≡ Some q → (con ≡ true) × (is_flush q.kind ≡ false))
+advance_held_decided con None = (λ e q is. absurd (cc), λ h. refl)
+advance_held_decided con (Some q) =
+    let held = Decides-and con (not (is_flush q.kind)) (λ e. e, λ e. e) (not_decided (is_flush q.kind)) in
+    (λ t p is. let same : q ≡ p = cc in subst (λ (x : AdvanceRequest). (con ≡ true) × (is_flush x.kind ≡ false)) same (held.0 t), λ h. held.1 (h q refl))
+
+pub may_tick_in_vain_decided : (d : Directory) (accounts : List Account) (f : ℕ) → Decides (may_tick_in_vain accounts f) (MayTickInVain (central_with d accounts) f)
+may_tick_in_vain_decided d accounts f =
+    let r = (account_at accounts f).state in
+    Decides-like (may_tick_in_vain accounts f) (λ p. record { due = p.0.0; roles = p.0.1; advance = p.1 }) (λ w. ((w.due, w.roles), w.advance))
+    (Decides-and _ (is_advance_held accounts f)
+    (Decides-and (is_nothing_due accounts f) (not (is_pending r.regulating)) (nothing_due_decided d accounts f) (not_decided (is_pending r.regulating)))
+    (advance_held_decided (is_constrained r) r.advance))
 
 -- ---- messages in receive order
 pub may_receive_decided : (r : TimeRow) → Decides (may_receive r) (MayReceive r)
@@ -72,6 +111,23 @@ not_earlier_decided g m h n Receive x = by (eqb h g && ltb n m) (Decides-and (eq
     by false k = (λ e same less. absurd (false≢true (k.1 (same, less))), λ f. refl)
 
 -- ---- keys
+not_earlier_of_decided : (g m s h n : ℕ) (dl : Delivery) (x : Content) →
+    Decides (option_map_or (λ y. not (eqb y s)) (ordered_stamp dl) true || not (eqb h g && ltb n m)) (h ≡ g → n < m → (copy_given dl x).order ≡ Tso → (copy_given dl x).stamp ≢ s)
+not_earlier_of_decided g m s h n Receive x = (λ e same less tso. absurd (apart tso), λ f. refl)
+  where
+    apart : Ro ≡ Tso → ⊥
+    apart e = cc
+not_earlier_of_decided g m s h n (Demoted stamp) x = (λ e same less tso. absurd (apart tso), λ f. refl)
+  where
+    apart : machine.Demoted ≡ Tso → ⊥
+    apart e = cc
+not_earlier_of_decided g m s h n (TimeStamp stamp) x = by (eqb stamp s) (eqb h g && ltb n m) (Decides-eqb stamp s) (Decides-and (eqb h g) (ltb n m) (Decides-eqb h g) (Decides-ltb n m))
+  where
+    by : (a b : Bool) → Decides a (stamp ≡ s) → Decides b ((h ≡ g) × (n < m)) → Decides (not a || not b) (h ≡ g → n < m → Tso ≡ Tso → stamp ≢ s)
+    by true true at before = (λ e. absurd (false≢true e), λ f. absurd (let p = before.0 refl in f p.0 p.1 refl (at.0 refl)))
+    by true false at before = (λ e same less. absurd (false≢true (before.1 (same, less))), λ f. refl)
+    by false b at before = (λ e same less tso is. absurd (false≢true (at.1 is)), λ f. refl)
+
 key_le_decided : (g m h n : ℕ) → Decides (is_key_le g m h n) (KeyLe g m h n)
 key_le_decided g m h n = Decides-or (ltb g h) (eqb g h && leb m n) (Decides-ltb g h) (Decides-and (eqb g h) (leb m n) (Decides-eqb g h) (Decides-leb m n))
 
@@ -163,12 +219,14 @@ module _ (d : Directory) (accounts : List Account) (kept : AreKept accounts) whe
   flush_granted_decided : (f : ℕ) (q : AdvanceRequest) (t : ℕ) → Decides (is_flush_granted accounts f q t) (MayGrantFlush (central_with d accounts) f q t)
   flush_granted_decided f q t =
       let r = (account_at accounts f).state in
-      Decides-like (is_flush_granted accounts f q t) (λ p. (p.0.0.0.0, p.0.0.0.1, p.0.0.1, p.0.1, p.1)) (λ p. ((((p.0, p.1), p.2), p.3), p.4))
+      Decides-like (is_flush_granted accounts f q t) (λ p. (p.0.0.0.0.0, p.0.0.0.0.1, p.0.0.0.1, p.0.1, p.1, p.0.0.1)) (λ p. (((((p.0, p.1), p.2), p.5), p.3), p.4))
       (Decides-and _ (is_below_all_tso accounts f t)
       (Decides-and _ (is_below_bound accounts f t)
+      (Decides-and _ (leb (least_of (min q.asked r.bar) r.flushed) t)
       (Decides-and _ (option_map_or (leb t) r.flushed true)
       (Decides-and (leb r.time t) (leb t q.asked) (Decides-leb r.time t) (Decides-leb t q.asked))
       (if_some_decided (leb t) (λ s. t ≤ s) (Decides-leb t) r.flushed))
+      (Decides-leb (least_of (min q.asked r.bar) r.flushed) t))
       (below_bound_decided d accounts kept f t))
       (below_all_tso_decided d accounts f t (kept.apart f)))
 
@@ -190,6 +248,12 @@ module _ (d : Directory) (accounts : List Account) (kept : AreKept accounts) whe
       (λ first h n k is same less. first n k less (subst (λ g. copy_at (account_at accounts f).bag g n ≡ Some k) same is))
       (each_decided (λ h n k. h ≡ e.sender → n < e.serial → k.order ≢ Ro) (is_not_earlier e.sender e.serial) (λ w. not_earlier_decided e.sender e.serial w.event.sender w.event.serial w.delivery w.content) (account_at accounts f).bag (kept.apart f))
 
+  first_of_stamp_decided : (f : ℕ) (e : EventHandle) (s : ℕ) → Decides (is_first_of_stamp accounts f e.sender e.serial s) (IsFirstOfStamp (central_with d accounts) f e s)
+  first_of_stamp_decided f e s = Decides-like (is_first_of_stamp accounts f e.sender e.serial s)
+      (λ each n k less is. each e.sender n k is refl less)
+      (λ first h n k is same less. first n k less (subst (λ g. copy_at (account_at accounts f).bag g n ≡ Some k) same is))
+      (each_decided (λ h n k. h ≡ e.sender → n < e.serial → k.order ≡ Tso → k.stamp ≢ s) (is_not_earlier_of_stamp e.sender e.serial s) (λ w. not_earlier_of_decided e.sender e.serial s w.event.sender w.event.serial w.delivery w.content) (account_at accounts f).bag (kept.apart f))
+
   at_first_pick_decided : (r : TimeRow) (q : AdvanceRequest) (s : ℕ) → Decides (is_at_first_pick r q s) (IsAtFirstPick r q s)
   at_first_pick_decided r q s = if_true_decided (is_next q.kind) (option_map_or (eqb s) r.first_pick true) _ (if_some_decided (eqb s) (λ p. s ≡ p) (Decides-eqb s) r.first_pick)
 
@@ -197,10 +261,6 @@ module _ (d : Directory) (accounts : List Account) (kept : AreKept accounts) whe
   least_key_decided f q e s = if_true_decided (is_strict q.kind) (list_all (is_not_before accounts e.sender e.serial s) (account_at accounts f).bag) _
       (each_decided (λ h n k. is_retracted accounts h n ≡ false → k.order ≡ Tso → k.stamp ≡ s → KeyLe e.sender e.serial h n) (is_not_before accounts e.sender e.serial s)
       (λ w. not_before_decided (is_retracted accounts w.event.sender w.event.serial) e.sender e.serial s w.event.sender w.event.serial w.delivery w.content) (account_at accounts f).bag (kept.apart f))
-
-  not_retracted_decided : (b : Bool) → Decides (not b) (b ≡ false)
-  not_retracted_decided true = (λ e. absurd (false≢true e), λ e. absurd (true≢false e))
-  not_retracted_decided false = (λ e. refl, λ e. refl)
 
   may_pick_decided : (f : ℕ) (q : AdvanceRequest) (e : EventHandle) (s : ℕ) → Decides (may_pick accounts f q e.sender e.serial s) (MayPick (central_with d accounts) f q e s)
   may_pick_decided f q e s =
@@ -212,7 +272,7 @@ module _ (d : Directory) (accounts : List Account) (kept : AreKept accounts) whe
       (Decides-and _ (is_at_first_pick r q s)
       (Decides-and _ (is_below_all_tso accounts f s)
       (Decides-and _ (is_below_bound accounts f (reach q.kind s))
-      (Decides-and (not (is_retracted accounts e.sender e.serial)) (leb s q.asked) (not_retracted_decided (is_retracted accounts e.sender e.serial)) (Decides-leb s q.asked))
+      (Decides-and (not (is_retracted accounts e.sender e.serial)) (leb s q.asked) (not_decided (is_retracted accounts e.sender e.serial)) (Decides-leb s q.asked))
       (below_bound_decided d accounts kept f (reach q.kind s)))
       (below_all_tso_decided d accounts f s (kept.apart f)))
       (at_first_pick_decided r q s))
@@ -242,10 +302,12 @@ module _ (d : Directory) (accounts : List Account) (kept : AreKept accounts) whe
       (Decides-and _ waits (Decides-and (may_receive r) (is_discovered accounts f x) (may_receive_decided r) (discovered_decided d accounts f x)) h)
   may_deliver_decided f e x (TimeStamp stamp) waits h =
       let r = (account_at accounts f).state in
-      Decides-like (may_deliver accounts f e.sender e.serial x (TimeStamp stamp) waits) (λ p. (p.0.0.0, p.0.0.1, p.0.1, p.1)) (λ p. (((p.0, p.1), p.2), p.3))
+      Decides-like (may_deliver accounts f e.sender e.serial x (TimeStamp stamp) waits) (λ p. (p.0.0.0.0, p.0.0.0.1, p.0.0.1, p.0.1, p.1)) (λ p. ((((p.0, p.1), p.2), p.3), p.4))
+      (Decides-and _ (is_first_of_stamp accounts f e.sender e.serial stamp)
       (Decides-and _ (may_pick_now accounts f e.sender e.serial stamp)
       (Decides-and _ waits (Decides-and (is_constrained r) (is_discovered accounts f x) (λ t. t, λ t. t) (discovered_decided d accounts f x)) h)
       (may_pick_now_decided f e stamp))
+      (first_of_stamp_decided f e stamp))
 
   -- ---- becoming constrained
   pub may_constrain_decided : (f t : ℕ) (events : List EventHandle) → Decides (may_constrain accounts f t events) (MayConstrain (central_with d accounts) f t (choice.Moved events))
@@ -256,7 +318,7 @@ module _ (d : Directory) (accounts : List Account) (kept : AreKept accounts) whe
       (Decides-and _ (is_below_bound accounts f t)
       (Decides-and _ (not (is_pending r.regulating))
       (Decides-and (eqb t r.time) (is_pending r.constrained) (Decides-eqb t r.time) (λ e. e, λ e. e))
-      (not_retracted_decided (is_pending r.regulating)))
+      (not_decided (is_pending r.regulating)))
       (below_bound_decided d accounts kept f t))
       (are_below_decided f t events))
     where

@@ -11,5 +11,5 @@ returns-in_ok-verdict-in-Some-clause-ok c d same at =
 
 pub returns-in-None-clause-ok : goal.returns-in-None-clause-ok
 returns-in-None-clause-ok c d same at =
-    nothing_among d c.args.accounts.now (points_of c.args.points.now) c.args.federate c.args.answer.now c.in-Ticked.told c.args.choice.now c.is_nothing.result c.of.result at
-    c.in-Ticked.is c.in-None.is c.is_nothing.ensures c.of.ensures
+    nothing_among d c.args.accounts.now (points_of c.args.points.now) c.args.federate c.args.answer.now c.in-Ticked.told c.args.choice.now c.may_give_nothing.result c.of.result at
+    c.in-Ticked.is c.in-None.is (c.may_give_nothing.ensures d) c.of.ensures

@@ -1,0 +1,22 @@
+-- What the index has is no earlier message, nor is the tail.
+use Rattle.std.proofs.Common.{◌∙◌, ap, sym, drop}
+use Rattle.std.specs.List.{list_all}
+use Rattle.hla_accounts.specs.declared.account.Account.{Account}
+use Rattle.hla_accounts.specs.Ticks.{is_not_earlier_of_stamp}
+use Rattle.hla_accounts.proofs.Indexes.Indexing.{rest_decides, head_decides}
+use Rattle.hla_accounts.proofs.accounts.Accounts.is_first_of_stamp.Goals as goal
+
+pub returns-then-is_first_indexed_of_stamp : goal.returns-then-is_first_indexed_of_stamp
+returns-then-is_first_indexed_of_stamp c =
+    let ws = c.in-Some.account.now.bag in
+    let x = c.indexing-indexing.result.now in
+    let rest = c.are_not_earlier_of_stamp.ensures ∙ ap (list_all (is_not_earlier_of_stamp c.args.event.sender c.args.event.serial c.args.stamp)) (c.tail-tail.ensures ∙ ap (drop x.count) c.as_slice.ensures.all) in
+    rest_decides (is_not_earlier_of_stamp c.args.event.sender c.args.event.serial c.args.stamp) ws x.count c.is_first_indexed_of_stamp.result c.are_not_earlier_of_stamp.result (c.is_first_indexed_of_stamp.ensures ws c.indexing-indexing.ensures) c.if-is_first_indexed_of_stamp.true rest
+    ∙ ap (λ (a : Account). list_all (is_not_earlier_of_stamp c.args.event.sender c.args.event.serial c.args.stamp) a.bag) (sym c.in-Some.ensures)
+
+pub returns-else-is_first_indexed_of_stamp : goal.returns-else-is_first_indexed_of_stamp
+returns-else-is_first_indexed_of_stamp c =
+    let ws = c.in-Some.account.now.bag in
+    let x = c.indexing-indexing.result.now in
+    head_decides (is_not_earlier_of_stamp c.args.event.sender c.args.event.serial c.args.stamp) ws x.count c.is_first_indexed_of_stamp.result (c.is_first_indexed_of_stamp.ensures ws c.indexing-indexing.ensures) c.if-is_first_indexed_of_stamp.false
+    ∙ ap (λ (a : Account). list_all (is_not_earlier_of_stamp c.args.event.sender c.args.event.serial c.args.stamp) a.bag) (sym c.in-Some.ensures)
