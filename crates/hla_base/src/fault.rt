@@ -1,6 +1,6 @@
 //! Faults of calls: the exceptions of HLA 1.3, and three of this profile.
 
-ghost use Rattle.std.specs.Prelude.{◌≡◌, IsTrue, ◌↔◌};
+ghost use Rattle.std.specs.Prelude.{◌≡◌, IsTrue, ◌↔◌, Some};
 ghost use Rattle.hla_base.specs.Fault.{number_of, name_of};
 
 use std::fmt;
@@ -158,6 +158,8 @@ impl Fault {
 
 /// The name of the fault.
 impl fmt::Display for Fault {
+    ghost output = { λ f. Some (name_of f) };
+
     fn fmt<W: fmt::Write>(&self, f: &mut fmt::Formatter<W>) -> fmt::Result {
         f.write_str(self.name())
     }

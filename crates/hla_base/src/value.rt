@@ -100,11 +100,12 @@ impl Value {
     pub const LIMIT: usize = MAX_VALUE;
 
     /// The value of these bytes; `LimitReached` where there are more than `LIMIT`, and `OutOfMemory` where a growth was
-    /// refused; up to fourteen bytes take no memory.
+    /// refused; up to fourteen bytes take no memory, so that they are never refused for want of it.
     pub fn new(alloc: Global, bytes: &[u8]) -> Result<Value, Fault>
         ensures ok { IfOk result (λ v. v ≡ bytes.now) }
         ensures long { IsErrOf result Fault.LimitReached ↔ (max_value < length bytes.now) }
         ensures err { IfErr result (λ e. (e ≡ Fault.LimitReached) ⊎ (e ≡ Fault.OutOfMemory)) }
+        ensures small { IsErrOf result Fault.OutOfMemory → max_inline < length bytes.now }
     {
         if bytes.len() > Value::LIMIT {
             return Err(Fault::LimitReached);

@@ -1,5 +1,6 @@
--- Where a list of records ceases to be a run
-use Rattle.std.specs.Prelude.{ℕ, ◌≡◌, List, take, slice_get, Some}
+-- Where a list of records ceases to be a run, and how that is printed
+use Rattle.std.specs.Prelude.{ℕ, ◌≡◌, List, ◌++◌, codes, take, slice_get, Some}
+use Rattle.std.specs.Fmt.{decimal}
 use Rattle.hla_machine.specs.declared.step.Record.{Record}
 use Rattle.hla_machine.specs.Runs.{Executions, no_executions, AllowedAct, AreRun}
 use Rattle.hla_checker.specs.declared.checking.CheckFault.{CheckFault}
@@ -20,3 +21,8 @@ IsNoStep y r = AllowedAct y r.execution r.act r.outcome r.choice → ⊥
 abbrev pub TellsFault : List Record → CheckFault → Type 0
 TellsFault rs (Place place) = IsRunUpTo rs place IsNoStep
 TellsFault rs Memory = Unit {0}
+
+-- a fault as it is printed
+abbrev pub check_fault_text : CheckFault → List ℕ
+check_fault_text (Place place) = codes "the record at place " ++ decimal place ++ codes " is no step of the machine"
+check_fault_text Memory = codes "OutOfMemory"

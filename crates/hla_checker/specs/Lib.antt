@@ -2,7 +2,7 @@
 pub mod Table
 -- Why an execution is not created
 pub mod Creating
--- Where a list of records ceases to be a run
+-- Where a list of records ceases to be a run, and how that is printed
 pub mod Faults
 -- What services send
 pub mod Sending

@@ -6,3 +6,5 @@ pub mod SpanLemmas
 pub mod SpellingLemmas
 -- One more token
 pub mod ReadingLemmas
+-- Tokens stand on the lines of their text
+pub mod LineLemmas

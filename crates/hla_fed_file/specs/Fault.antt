@@ -1,5 +1,7 @@
--- The names of faults
-use Rattle.std.specs.Prelude.{ℕ, List, codes}
+-- The names of faults, and how they are printed
+use Rattle.std.specs.Prelude.{ℕ, List, ◌++◌, codes}
+use Rattle.std.specs.Fmt.{decimal}
+use Rattle.hla_fed_file.specs.declared.fault.FedFault.{FedFault}
 use Rattle.hla_fed_file.specs.declared.fault.FedFaultKind.{FedFaultKind}
 use Rattle.hla_fed_file.specs.declared.fault.FedFaultKind.TheVariants.{UnexpectedEnd, BadByte, ExpectedOpen, UnknownKeyword, ExpectedName, ExpectedClose, TrailingText, TooLarge, OutOfMemory}
 
@@ -14,3 +16,7 @@ kind_name_of ExpectedClose = codes "ExpectedClose"
 kind_name_of TrailingText = codes "TrailingText"
 kind_name_of TooLarge = codes "TooLarge"
 kind_name_of OutOfMemory = codes "OutOfMemory"
+
+-- a fault as it is printed: its line and its kind
+abbrev pub fed_fault_text : FedFault → List ℕ
+fed_fault_text e = codes "line " ++ decimal e.line ++ codes ": " ++ kind_name_of e.kind

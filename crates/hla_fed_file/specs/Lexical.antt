@@ -1,6 +1,7 @@
 -- The tokens of a FED text, each with its line
-use Rattle.std.specs.Prelude.{ℕ, ◌+◌, Bool, false, not, ◌==◌, ◌||◌, ◌&&◌, nat_lt, List, [], ◌∷◌, if◌then◌else◌}
+use Rattle.std.specs.Prelude.{ℕ, ◌+◌, ◌≤◌, Bool, false, not, ◌==◌, ◌||◌, ◌&&◌, nat_lt, List, [], ◌∷◌, if◌then◌else◌}
 use Rattle.std.specs.List.{take_while}
+use Rattle.hla_base.specs.Tables.{one_if}
 
 -- what a text has at a place: End at its end, Unclosed where it ends inside a quoted name, Bad where a byte stands that may not
 pub data Token : Type 0 where
@@ -91,3 +92,13 @@ tokens_from mode line (b ∷ bytes) =
 -- all tokens of a text
 abbrev pub tokens : List ℕ → List Lexed
 tokens text = tokens_from Between 1 text
+
+-- the line feeds of a text
+abbrev pub line_feeds : List ℕ → ℕ
+line_feeds [] = 0
+line_feeds (b ∷ bytes) = one_if (b == 10) + line_feeds bytes
+
+-- the text has this line; the first is 1, and a line begins behind each line feed
+pub record IsLineOf (text : List ℕ) (line : ℕ) : Type 0 where
+  pub from : 1 ≤ line
+  pub to : line ≤ 1 + line_feeds text

@@ -1,4 +1,4 @@
--- The names of faults
+-- The names of faults, and how they are printed
 pub mod Fault
 -- The tokens of a FED text, each with its line
 pub mod Lexical

@@ -1,9 +1,9 @@
 //! Reading a FED file.
 
-ghost use Rattle.std.specs.Prelude.{◌≤◌, length, Ok, IfOk};
+ghost use Rattle.std.specs.Prelude.{◌≡◌, ◌≤◌, length, Ok, IfOk, IfErr};
 ghost use Rattle.hla_base.specs.Limits.{max_fed_file};
 ghost use Rattle.hla_fed_file.specs.Reading.{ending_of, reading, reading_of, ReadsAs, Takes};
-ghost use Rattle.hla_fed_file.specs.Lexical.{tokens};
+ghost use Rattle.hla_fed_file.specs.Lexical.{tokens, IsLineOf};
 ghost use Rattle.hla_fed_file.specs.Grammar.{Describes};
 ghost use Rattle.hla_catalogue.specs.CatalogueValue.{CatalogueValue};
 
@@ -16,10 +16,12 @@ use std::alloc::Global;
 
 /// Takes all tokens of a text, and gives the line of its end. Else the first fault of `Reader::take`, with the line of its
 /// token.
-#[tactic(auto, using(crate::proofs::Lexical::ReadingLemmas::steps))]
+#[tactic(auto, using(crate::proofs::Lexical::ReadingLemmas::steps, crate::proofs::Lexical::LineLemmas::lines))]
 fn take_all(reader: &mut Reader, alloc: Global, text: &[u8]) -> Result<usize, FedFault>
     requires { length text.now ≤ max_fed_file }
-    ensures { Takes result (reading reader.old (tokens text.now)) reader.new }
+    ensures taken { Takes result (reading reader.old (tokens text.now)) reader.new }
+    ensures end { IfOk result (IsLineOf text.now) }
+    ensures line { IfErr result (λ e. IsLineOf text.now e.line) }
 {
     let mut rest = text;
     let mut line = 1;
@@ -38,7 +40,8 @@ fn take_all(reader: &mut Reader, alloc: Global, text: &[u8]) -> Result<usize, Fe
 
 /// The catalogue of what was read, where the text ends, on a line. `OutOfMemory` where a growth was refused.
 fn finished(reader: Reader, alloc: Global, line: usize) -> Result<Catalogue, FedFault>
-    ensures { ReadsAs result (ending_of line reader) }
+    ensures exact { ReadsAs result (ending_of line reader) }
+    ensures line { IfErr result (λ e. e.line ≡ line) }
 {
     match reader.finish(line) {
         Ok(draft) => match Catalogue::from_draft(alloc, draft) {
@@ -55,7 +58,8 @@ fn finished(reader: Reader, alloc: Global, line: usize) -> Result<Catalogue, Fed
 /// Reads a text token by token. `TooLarge`, at line 1, where it is longer than `MAX_FED_FILE`; else the fault of
 /// `take_all`, or else that of `finished`.
 fn read_tokens(alloc: Global, text: &[u8]) -> Result<Catalogue, FedFault>
-    ensures { ReadsAs result (reading_of text.now) }
+    ensures exact { ReadsAs result (reading_of text.now) }
+    ensures line { IfErr result (λ e. IsLineOf text.now e.line) }
 {
     if text.len() > MAX_FED_FILE {
         return Err(FedFault {
@@ -78,6 +82,9 @@ fn read_tokens(alloc: Global, text: &[u8]) -> Result<Catalogue, FedFault>
 pub fn read(alloc: Global, text: &[u8]) -> Result<Catalogue, FedFault>
     // The catalogue, or the first fault: tokens are tested in their order.
     ensures exact { ReadsAs result (reading_of text.now) }
+
+    // The line of a fault is one of the text, also where memory ran out.
+    ensures line { IfErr result (λ e. IsLineOf text.now e.line) }
 
     // What is read is a file of the grammar within the limits, and declares the catalogue.
     ensures found { IfOk result (Describes text.now) }

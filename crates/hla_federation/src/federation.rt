@@ -36,20 +36,21 @@ impl Drop for Federation {
 }
 
 impl Federation {
-    ghost use Rattle.std.specs.Prelude.{◌≡◌, true, OnErr, OnOk, IfOk, IfErr};
+    ghost use Rattle.std.specs.Prelude.{◌≡◌, true, None, OnErr, OnOk, IfOk, IfErr};
+    ghost use Rattle.hla_machine.specs.Refusals.{refusal};
     ghost use Rattle.hla_machine.specs.declared.step.Outcome.TheVariants as outcome;
     ghost use Rattle.hla_base.specs.declared.fault.Fault.TheVariants.{OutOfMemory};
     ghost use Rattle.hla_machine.specs.Discovered.{IsDiscoveredInTurn};
     ghost use Rattle.hla_machine.specs.Lawful.{IsLawful};
     ghost use Rattle.hla_machine.specs.Runs.{IsMachineStep, IsRun, is_joined_by_any};
     ghost use Rattle.hla_components.specs.Components.{new_components};
-    ghost use Rattle.hla_components.specs.Next.{next};
+    ghost use Rattle.hla_components.specs.Next.{components_seen, next};
     ghost use Rattle.hla_components.specs.CentralOf.{central};
     ghost use Rattle.hla_machine.specs.declared.step.Answer.TheVariants as answer;
     ghost use Rattle.hla_machine.specs.declared.step.Step.TheVariants as step;
     ghost use Rattle.hla_federation.specs.Steps.Answering.{answered_as, DoesStep};
     ghost use Rattle.hla_federation.specs.Steps.State.{state_of};
-    ghost use Rattle.hla_federation.specs.Steps.Memory.{IsRefusedWith, foresight_takes_memory, takes_memory};
+    ghost use Rattle.hla_federation.specs.Steps.Memory.{IsRefusedWith, choice_takes_memory, foresight_takes_memory, takes_memory};
     ghost use Rattle.hla_components.specs.Headline.{happening, happenings};
     ghost use Rattle.hla_federation.specs.Steps.Soundness.{IsSound, AreSteps, remembered_steps};
 
@@ -138,24 +139,28 @@ impl Federation {
 
     /// What the next step would choose, if it were this one: from which stamp on a federate may send that enables regulation,
     /// or which messages move to receive order. Nothing changes. `OutOfMemory` where the list of those was refused room, which
-    /// happens to no step but those that take memory themselves.
+    /// happens to no step but those that take memory themselves, and would choose such a list: to none that would be refused.
     pub fn choice(&self, step: &Step) -> Result<Choice, Fault>
         ensures ok { IfOk result (λ c. c ≡ (next (state_of self.now) step.now).choice) }
         ensures err { IfErr result (λ e. e ≡ Fault.OutOfMemory) }
         ensures memory { OnErr result (takes_memory (state_of self.now) step.now ≡ true) }
+        ensures moved { OnErr result (choice_takes_memory
+            (next (state_of self.now) step.now).choice ≡ true) }
     {
         self.parts.choice(step)
     }
 
     /// How the next step would end and what it would choose, if it were this one. Nothing changes. `OutOfMemory` where a
     /// growth was refused: it happens to no step but those that take memory themselves, and a tick that would give a message,
-    /// a discovery or a notice, of which the answer has a copy.
+    /// a discovery or a notice, of which the answer has a copy; and to none that would be refused.
     pub fn foresee(&self, step: &Step) -> Result<Foreseen, Fault>
         ensures outcome { IfOk result
             (λ x. x.outcome ≡ (next (state_of self.now) step.now).outcome) }
         ensures choice { IfOk result (λ x. x.choice ≡ (next (state_of self.now) step.now).choice) }
         ensures err { IfErr result (λ e. e ≡ Fault.OutOfMemory) }
         ensures memory { OnErr result (foresight_takes_memory (state_of self.now) step.now ≡ true) }
+        ensures allowed { OnErr result
+            (refusal (components_seen (state_of self.now)) step.now ≡ None) }
     {
         self.parts.foresee(step)
     }

@@ -342,7 +342,7 @@ impl Parts {
 
     /// How a step would end, and what it would choose; nothing changes. `OutOfMemory` where a growth was refused: it
     /// happens to no step but those that take memory themselves, and a tick that would give a message, a discovery or a
-    /// notice, of which the answer has a copy.
+    /// notice, of which the answer has a copy; and to none that would be refused.
     pub fn foresee(&self, step: &Step) -> Result<Foreseen, Fault>
         requires { IsSound self.now }
         ensures outcome { IfOk result
@@ -350,14 +350,16 @@ impl Parts {
         ensures choice { IfOk result (λ x. x.choice ≡ (next (state_of self.now) step.now).choice) }
         ensures err { IfErr result (λ e. e ≡ Fault.OutOfMemory) }
         ensures memory { OnErr result (foresight_takes_memory (state_of self.now) step.now ≡ true) }
+        ensures allowed { OnErr result
+            (refusal (components_seen (state_of self.now)) step.now ≡ None) }
     {
-        let choice = self.choice(step)?;
         if let Some(fault) = self.step_fault(step) {
             return Ok(Foreseen {
                 outcome: Outcome::Refused(fault),
-                choice,
+                choice: Choice::None,
             });
         }
+        let choice = self.choice(step)?;
         let answer = self.next_answer(step)?;
         Ok(Foreseen {
             outcome: Outcome::Done(answer),

@@ -5,6 +5,8 @@ use Rattle.hla_base.specs.declared.fault.Fault.TheVariants.{OutOfMemory}
 use Rattle.hla_local.specs.Picking.{Pick, PickConstrains, pick, picked_by, copies_content}
 use Rattle.hla_machine.specs.declared.service.Service.{Service}
 use Rattle.hla_machine.specs.declared.service.Service.TheVariants as service
+use Rattle.hla_machine.specs.declared.step.Choice.{Choice}
+use Rattle.hla_machine.specs.declared.step.Choice.TheVariants as choice
 use Rattle.hla_machine.specs.declared.step.Step.{Step}
 use Rattle.hla_machine.specs.declared.step.Step.TheVariants.{Join, Call, Carry, Announce, Tick}
 use Rattle.hla_machine.specs.Refusals.{refusal}
@@ -18,6 +20,11 @@ use Rattle.hla_members.specs.Members.{arrival_takes_memory}
 abbrev pub pick_takes_memory : Pick → Bool
 pick_takes_memory PickConstrains = true
 pick_takes_memory p = false
+
+-- of what a step may choose only the list of what moves takes memory; a step that is refused chooses none
+abbrev pub choice_takes_memory : Choice → Bool
+choice_takes_memory (choice.Moved moved) = true
+choice_takes_memory c = false
 
 -- lists, names and messages take memory, but no row of a federate does
 abbrev pub service_takes_memory : Service → Bool

@@ -8,4 +8,5 @@ returns-in_default c = record {
   ok = sym (no_service_choice (state_of c.args.self.now) c.args.federate c.args.service.now c.in_default.not-EnableTimeRegulation c.in_default.not-DisableTimeConstrained);
   err = tt;
   memory = tt;
+  moved = tt;
 }

@@ -17,7 +17,7 @@ use Rattle.hla_components.specs.Next.{next}
 use Rattle.hla_synchronization.specs.OpenPoints.{points_of}
 use Rattle.hla_federation.specs.FederationValue.{FederationValue}
 use Rattle.hla_members.specs.Members.{members_of}
-use Rattle.hla_federation.specs.Steps.Memory.{takes_memory}
+use Rattle.hla_federation.specs.Steps.Memory.{choice_takes_memory, takes_memory}
 use Rattle.hla_federation.specs.Steps.State.{state_of}
 use Rattle.hla_federation.proofs.Steps.Changing.{handed_on, constrains, nothing_moves}
 use Rattle.hla_federation.proofs.Steps.Declaring.{pick_memory, picked_choice}
@@ -31,6 +31,16 @@ returns-in_err-moved-in-Constraint-clause-memory c =
     let takes = pick_memory c.self.inside.catalogue (points_of c.self.inside.points) (declared.declarations_of c.self.inside.declarations) (registry_of c.self.inside.registry) (members_of c.self.inside.members.shown) c.args.federate whole.parts enters in
     handed_on c.in_err-moved-in-Constraint.field-0.0 c.from_residual.result (λ (r : Result Choice Fault). OnErr r (takes_memory (state_of c.args.self.now) (Tick c.args.federate) ≡ true)) c.from_residual.ensures
     (subst (λ (v : FederationValue). takes_memory (state_of v) (Tick c.args.federate) ≡ true) c.self.view_is takes)
+
+pub returns-in_err-moved-in-Constraint-clause-moved : goal.returns-in_err-moved-in-Constraint-clause-moved
+returns-in_err-moved-in-Constraint-clause-moved c =
+    let whole = rw (← c.self.view_is) at c.requires.whole in
+    let joined = sym c.is_joined.ensures ∙ c.if-not-is_joined.false in
+    let l = (members_of c.self.inside.members.shown).local c.args.federate in
+    let enters = constrains (local_pick l) (ap (λ (x : LocalValue). next_pick_by (local_pick x)) (sym c.local-local.ensures) ∙ sym c.next_pick.ensures ∙ c.in-Constraint.is) in
+    let chosen = picked_choice c.self.inside.catalogue (points_of c.self.inside.points) (declared.declarations_of c.self.inside.declarations) (registry_of c.self.inside.registry) (members_of c.self.inside.members.shown) c.args.federate whole.parts joined in
+    handed_on c.in_err-moved-in-Constraint.field-0.0 c.from_residual.result (λ (r : Result Choice Fault). OnErr r (choice_takes_memory (next (state_of c.args.self.now) (Tick c.args.federate)).choice ≡ true)) c.from_residual.ensures
+    (subst (λ (v : FederationValue). choice_takes_memory (next (state_of v) (Tick c.args.federate)).choice ≡ true) c.self.view_is (ap choice_takes_memory (chosen ∙ ap (λ (p : Pick). choice_given l p) enters)))
 
 pub returns-in_ok-moved-in-Constraint-clause-ok : goal.returns-in_ok-moved-in-Constraint-clause-ok
 returns-in_ok-moved-in-Constraint-clause-ok c =
@@ -56,4 +66,5 @@ returns-in_default c =
       ok = subst (λ (v : FederationValue). choice.None ≡ (next (state_of v) (Tick c.args.federate)).choice) c.self.view_is (sym (chosen ∙ nothing_moves l (local_pick l) other));
       err = tt;
       memory = tt;
+      moved = tt;
     }
