@@ -203,7 +203,7 @@ fn do_known<F: Execution>(federation: &mut F, step: &Step) -> Result<Outcome, Fa
     match federation.step(step) {
         Ok(answer) => Ok(Outcome::Done(answer)),
         Err(fault) => {
-            if fault.number() == 38 {
+            if fault == Fault::OutOfMemory {
                 Err(fault)
             } else {
                 Ok(Outcome::Refused(fault))

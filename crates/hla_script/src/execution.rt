@@ -54,7 +54,7 @@ fn do_step(federation: &mut Option<Federation>, step: &Step) -> Result<Ending, F
             choice,
         }),
         Err(fault) => {
-            if fault.number() == 38 {
+            if fault == Fault::OutOfMemory {
                 return Err(fault);
             }
             Ok(Ending {
