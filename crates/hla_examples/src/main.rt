@@ -1,10 +1,11 @@
 //! Plays each example and says whether its transcript is the expected one, and whether the checker of recorded runs takes
 //! its records and tells each that is forged, at its place: another outcome, a choice where nothing is chosen, an entry too
 //! low, another stamp, a grant too early by one, a retracted interaction, a record of a federate that has resigned,
-//! synchronized told for an announcement, a label reached that may not be or not reached that may, two records exchanged,
-//! one left out. Each is played behind the lock, too, line by line, with the same transcript; some run with a thread for
-//! each federate, and end with records that the checker takes. And to some is done what nobody wants: they stop behind each
-//! of their lines, or their history is full, or their ambassadors give trouble, or their text is cut off.
+//! synchronized told for an announcement, a label reached that may not be or not reached that may, nothing given where a
+//! tick waits for nobody, two records exchanged, one left out. Each is played behind the lock, too, line by line, with the
+//! same transcript; some run with a thread for each federate, and end with records that the checker takes. And to some is
+//! done what nobody wants: they stop behind each of their lines, or their history is full, or their ambassadors give
+//! trouble, or their text is cut off.
 //!
 //! It runs in the folder of the examples: for each name there is a script `NAME.script`, played over `text-f.fed`, and what it
 //! must print, `NAME.expected`. With words it plays one script by the calls of one layer, and prints its transcript:

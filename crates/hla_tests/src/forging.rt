@@ -1,7 +1,7 @@
 //! Records of scripts, and what is told of them once one is forged. Places count from 0.
 
 use crate::sketches::{Deed, News, Told};
-use crate::{objects, orders, picks, points, rows, runs};
+use crate::{objects, orders, picks, points, rows, runs, turns};
 use hla_base::{EventHandle, Fault, List, Serial, SharedList, Ticks};
 use hla_checker::{CheckFault, check_run};
 use hla_machine::{Act, Answer, Choice, Outcome, Record, Step};
@@ -192,7 +192,7 @@ fn check_forgeries(rt: &impl Abort, alloc: Global, forgeries: &Forgeries) {
 }
 
 /// All scripts with their forgeries.
-static ALL: [&Forgeries; 10] = [
+static ALL: [&Forgeries; 11] = [
     &rows::NEWCOMER,
     &objects::CAR,
     &orders::CHANGED,
@@ -203,6 +203,7 @@ static ALL: [&Forgeries; 10] = [
     &points::LEFT,
     &runs::RESIGNED,
     &runs::NOTHING,
+    &turns::TURNS,
 ];
 
 #[test]

@@ -38,3 +38,5 @@ mod service_scripts;
 mod sketches;
 #[cfg(test)]
 mod steps;
+#[cfg(test)]
+mod turns;

@@ -183,6 +183,12 @@ B tick
             told: Some(24),
         },
         Forgery {
+            name: "retraction not asked for",
+            place: 24,
+            forged: Forged::Answer(Told::Nothing),
+            told: Some(24),
+        },
+        Forgery {
             name: "pick once more",
             place: 20,
             forged: Forged::Answer(Told::Given(News::Interaction {

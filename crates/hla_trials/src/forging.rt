@@ -96,8 +96,8 @@ fn other_stamp(record: &Record) -> Result<Option<Record>, Fault> {
     }
 }
 
-/// The record of a grant one tick earlier, where nobody flushed before its place: a flush is granted any time from the caller's
-/// own up to what it gave. `OutOfMemory` where a growth was refused.
+/// The record of a grant one tick earlier, where nobody flushed before its place: a flush may be granted less than it was.
+/// `OutOfMemory` where a growth was refused.
 fn early_grant(records: &[Record], place: usize, record: &Record) -> Result<Option<Record>, Fault> {
     if has_flushed(records, place) {
         return Ok(None);
@@ -109,6 +109,31 @@ fn early_grant(records: &[Record], place: usize, record: &Record) -> Result<Opti
         Some(time) if time > 0 => {
             let early = Callback::TimeAdvanceGrant { time: time - 1 };
             Ok(Some(giving(record, early)?))
+        }
+        _ => Ok(None),
+    }
+}
+
+/// Whether a callback tells what waits for nobody: a tick gives it, or what goes ahead of it, and not nothing.
+fn waits_for_nobody(callback: &Callback) -> bool {
+    matches!(
+        callback,
+        Callback::TimeRegulationEnabled { .. }
+            | Callback::RequestRetraction { .. }
+            | Callback::SynchronizationPointRegistrationSucceeded { .. }
+            | Callback::SynchronizationPointRegistrationFailed { .. }
+            | Callback::AnnounceSynchronizationPoint { .. }
+            | Callback::FederationSynchronized { .. }
+    )
+}
+
+/// The record of a tick that gave what waits for nobody, forged to one that gave nothing. `OutOfMemory` where a copy was
+/// refused.
+fn in_vain(record: &Record) -> Result<Option<Record>, Fault> {
+    match given(record) {
+        Some(callback) if waits_for_nobody(callback) => {
+            let forged = ending(record, Outcome::Done(Answer::Ticked(None)))?;
+            Ok(Some(forged))
         }
         _ => Ok(None),
     }
@@ -212,9 +237,10 @@ enum Forgery {
     SecondResignation,
     EarlySynchronized,
     OtherAchievement,
+    InVain,
 }
 
-const FORGERIES: [Forgery; 9] = [
+const FORGERIES: [Forgery; 10] = [
     Forgery::Outcome,
     Forgery::Choice,
     Forgery::LowEntry,
@@ -224,6 +250,7 @@ const FORGERIES: [Forgery; 9] = [
     Forgery::SecondResignation,
     Forgery::EarlySynchronized,
     Forgery::OtherAchievement,
+    Forgery::InVain,
 ];
 
 impl Forgery {
@@ -245,6 +272,7 @@ impl Forgery {
             Forgery::SecondResignation => second_resignation(records, place),
             Forgery::EarlySynchronized => early_synchronized(record),
             Forgery::OtherAchievement => other_achievement(record),
+            Forgery::InVain => in_vain(record),
         }
     }
 }
