@@ -186,7 +186,8 @@ impl Accounts {
         };
         let indexing = account.bag.indexing();
         let tail = indexing.tail(account.bag.as_slice());
-        is_first_indexed_of_stamp(indexing, event, stamp) && are_not_earlier_of_stamp(event, stamp, tail)
+        is_first_indexed_of_stamp(indexing, event, stamp)
+            && are_not_earlier_of_stamp(event, stamp, tail)
     }
 
     /// Whether a flush is granted a time, in ticks, that nothing picked up or waiting is below, and that is at least the least
