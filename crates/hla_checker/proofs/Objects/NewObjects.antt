@@ -1,6 +1,7 @@
 -- To whom a new object becomes known, and for whom its discovery waits, federate by federate
 use Rattle.std.proofs.Common.{◌≡◌, ◌≢◌, ℕ, ◌+◌, ◌≤◌, ◌<◌, cond, eqb, ltb, not, ◌&&◌, Bool, true, false, refl, sym, ap, ◌∙◌, ⊎_elim, arith, eqb-true, ne_eqb, is_some, List, [], ◌∷◌, ◌++◌, length, Option, Some, None}
 use Rattle.std.specs.List.{filter_map}
+use Rattle.std.specs.Option.{option_to_list}
 use Rattle.std.proofs.lemmas.Bool.{cases_Bool, cases_lt}
 use Rattle.std.proofs.lemmas.Bool.Decides.{nat_tests}
 use Rattle.std.proofs.lemmas.List.{append-nil}
@@ -13,9 +14,25 @@ use Rattle.hla_accounts.specs.declared.account.Account.{Account}
 use Rattle.hla_accounts.specs.declared.offers.Offer.{Offer}
 use Rattle.hla_accounts.specs.Accounts.{account_at, central_with, offers_from}
 use Rattle.hla_accounts.proofs.AfterSteps.Accounts.{account_at-past}
-use Rattle.hla_accounts.proofs.Sendings.Discoveries.{none_offered, offers_in}
 use Rattle.hla_accounts.proofs.Sendings.Messages.{joined_in}
 use Rattle.hla_checker.specs.Offering.{wanted_discoveries, known_to_joined}
+
+-- what each is to discover of each other's objects
+abbrev pub offers_in : List Account → ℕ → ℕ → List Discovery
+offers_in accounts = λ g f. offers_from g (account_at accounts f).offers
+
+nothing_more : (t : ℕ → ℕ → List Discovery) (g f : ℕ) (xs : List Discovery) → xs ≡ t g f → t ≡ upd2 t g f xs
+unfolding upd2
+nothing_more t g f xs same = fun_ext (λ h. fun_ext (λ k. by h k (eqb g h) (eqb f k) refl refl))
+  where
+    by : (h k : ℕ) (a b : Bool) → eqb g h ≡ a → eqb f k ≡ b → t h k ≡ cond (a && b) xs (t h k)
+    by h k true true y z = let p = eqb-true g h y in let q = eqb-true f k z in (λ i. t (sym p i) (sym q i)) ∙ sym same
+    by h k true false y z = refl
+    by h k false b y z = refl
+
+none_offered : (d : Directory) (accounts : List Account) (g f : ℕ) (o : Option Discovery) → o ≡ None → central_with d accounts ≡ record (central_with d accounts) { discoveries = upd2 (offers_in accounts) g f (offers_in accounts g f ++ option_to_list o) }
+none_offered d accounts g f o none = ap (λ (t : ℕ → ℕ → List Discovery). record (central_with d accounts) { discoveries = t })
+    (nothing_more (offers_in accounts) g f (offers_in accounts g f ++ option_to_list o) (ap (λ (o : Option Discovery). offers_in accounts g f ++ option_to_list o) none ∙ append-nil (offers_in accounts g f)))
 
 -- nobody past the last has joined
 pub not_joined : (accounts : List Account) (f : ℕ) → length accounts < f → (account_at accounts f).is_joined ≡ false

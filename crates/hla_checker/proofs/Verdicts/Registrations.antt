@@ -25,7 +25,7 @@ use Rattle.hla_machine.proofs.Basics.Tests.{all_clear}
 use Rattle.hla_accounts.specs.declared.account.Account.{Account}
 use Rattle.hla_accounts.specs.Accounts.{account_at, central_with}
 use Rattle.hla_accounts.proofs.AfterSteps.Counts.{same_size}
-use Rattle.hla_accounts.proofs.Sendings.Discoveries.{offers_in}
+use Rattle.hla_checker.proofs.Objects.NewObjects.{offers_in}
 use Rattle.hla_accounts.proofs.Sendings.Messages.{joined_in}
 use Rattle.hla_verdicts.specs.declared.verdict.Verdict.TheVariants as verdict
 use Rattle.hla_verdicts.specs.Kept.{KeptValue, IsConsistent, JudgedStep, central_of, directory_with}
