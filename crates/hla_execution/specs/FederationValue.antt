@@ -4,7 +4,7 @@ use Rattle.hla_catalogue.specs.CatalogueValue.{CatalogueValue}
 use Rattle.hla_declaration.specs.Lists.{DeclarationLists}
 use Rattle.hla_object_registry.specs.Registered.{Registered}
 use Rattle.hla_synchronization.specs.declared.open_points.OpenPoint.{OpenPoint}
-use Rattle.hla_members.specs.MemberValue.{MemberValue}
+use Rattle.hla_execution.specs.MemberValue.{MemberValue}
 
 pub record FederationValue : Type 0 where
   pub catalogue : CatalogueValue

@@ -9,7 +9,7 @@ use Rattle.hla_synchronization.specs.Points.{Point}
 use Rattle.hla_synchronization.specs.OpenPoints.{points_of}
 use Rattle.hla_machine.specs.Directory.{Directory}
 use Rattle.hla_components.specs.Components.{Components}
-use Rattle.hla_members.specs.Members.{MemberTables, members_of}
+use Rattle.hla_execution.specs.MemberValue.{MemberTables, members_of}
 use Rattle.hla_execution.specs.FederationValue.{FederationValue}
 
 abbrev pub directory_from : CatalogueValue → List Point → DeclarationsValue → RegistryValue → MemberTables → Directory

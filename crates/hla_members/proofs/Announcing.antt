@@ -8,7 +8,9 @@ use Rattle.hla_base.specs.Tables.{upd2, upd_row, is_other}
 use Rattle.hla_base.proofs.Tables.{upd2_same, upd2_other, cases_pair}
 use Rattle.hla_null_message.specs.declared.message.Message.TheVariants as message
 use Rattle.hla_null_message.specs.Wires.{put_behind}
-use Rattle.hla_members.specs.Members.{HasRoomForOthers, MemberTables, nulls_below, room_in, with_null_sent}
+use Rattle.hla_execution.specs.MemberValue.{MemberTables}
+use Rattle.hla_members.specs.Rooms.{room_in}
+use Rattle.hla_members.specs.Members.{HasRoomForOthers, nulls_below, with_null_sent}
 
 -- ---- room
 pub room_none : (joined : ℕ → Bool) (f : ℕ) (rooms : List (List ℕ)) → HasRoomForOthers joined f 1 1 rooms

@@ -9,7 +9,8 @@ use Rattle.hla_lbts.specs.declared.row.PeerRow.{PeerRow}
 use Rattle.hla_lbts.specs.Peers.{PeersValue, peers_of}
 use Rattle.hla_local.specs.LocalValue.{LocalValue}
 use Rattle.hla_members.specs.Changes.{peers_lowered}
-use Rattle.hla_members.specs.Members.{MemberTables, with_component}
+use Rattle.hla_execution.specs.MemberValue.{MemberTables}
+use Rattle.hla_members.specs.Members.{with_component}
 
 module _ (f epoch entry : ℕ) (old : MemberTables) where
   -- what a component knows of its peers, where those below a number have learned of it

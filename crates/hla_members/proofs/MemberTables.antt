@@ -13,8 +13,8 @@ use Rattle.hla_retraction.specs.declared.sent.SentRow.{SentRow}
 use Rattle.hla_members.specs.declared.note.Note.{Note}
 use Rattle.hla_members.specs.Noting.{noted_event, with_noted}
 use Rattle.hla_local.specs.LocalValue.{LocalValue, new_local, resigned_local}
-use Rattle.hla_members.specs.MemberValue.{item, MemberValue}
-use Rattle.hla_members.specs.Members.{no_member, MemberTables, members_of, new_member, resigned_member, AreQuiet, with_member_admitted, with_member_withdrawn, with_component}
+use Rattle.hla_execution.specs.MemberValue.{item, MemberValue, no_member, MemberTables, members_of}
+use Rattle.hla_members.specs.Members.{new_member, resigned_member, AreQuiet, with_member_admitted, with_member_withdrawn, with_component}
 
 -- a list with another item is a table with another item
 pub item-set : {X : Type 0} (d : X) (xs : List X) (f : ℕ) (x : X) → 0 < f → f ≤ length xs → item d (set xs (f - 1) x) ≡ upd (item d xs) f x

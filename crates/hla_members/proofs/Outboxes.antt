@@ -10,7 +10,7 @@ use Rattle.hla_base.specs.Tables.{upd}
 use Rattle.hla_base.proofs.Tables.{upd_same, upd_other}
 use Rattle.hla_null_message.specs.declared.message.Message.{Message}
 use Rattle.hla_members.specs.declared.addressed.Addressed.{Addressed}
-use Rattle.hla_members.specs.MemberValue.{item}
+use Rattle.hla_execution.specs.MemberValue.{item}
 use Rattle.hla_members.specs.Members.{AreQuiet}
 use Rattle.hla_members.specs.Outboxes.{messages_for, lists_from, by_peer}
 

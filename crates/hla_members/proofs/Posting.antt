@@ -10,10 +10,11 @@ use Rattle.hla_null_message.specs.Wires.{put_behind, put_all_behind}
 use Rattle.hla_null_message.proofs.Wires.{put_all-append}
 use Rattle.hla_members.specs.declared.direction.Direction.{Direction}
 use Rattle.hla_members.specs.declared.direction.Direction.TheVariants.{From, To}
-use Rattle.hla_members.specs.Members.{IsEnd, HasRoom, IsLessRoom, wires_posted_below, room_in, is_number}
+use Rattle.hla_members.specs.Rooms.{room_in}
+use Rattle.hla_members.specs.Members.{IsEnd, HasRoom, IsLessRoom, wires_posted_below, is_number}
 use Rattle.hla_members.specs.declared.addressed.Addressed.{Addressed}
 use Rattle.hla_base.specs.Limits.{max_joins}
-use Rattle.hla_members.specs.MemberValue.{item}
+use Rattle.hla_execution.specs.MemberValue.{item}
 use Rattle.hla_members.specs.Outboxes.{by_peer, messages_for}
 use Rattle.hla_members.proofs.Outboxes.{item_within, one_is, one_not, parts_length}
 use Rattle.hla_members.specs.Wiring.{source, target, is_along, peer_along}

@@ -4,8 +4,8 @@ use Rattle.std.proofs.Math.Seq.{map-set_same}
 use Rattle.std.proofs.lemmas.List.{map-set, length-map}
 use Rattle.std.proofs.lemmas.Bool.{cases_eq}
 use Rattle.hla_base.specs.Tables.{upd}
-use Rattle.hla_members.specs.MemberValue.{item, RoomyMember, RoomyMembers}
-use Rattle.hla_members.specs.Members.{no_member, roomy_members, room_in}
+use Rattle.hla_execution.specs.MemberValue.{item, no_member}
+use Rattle.hla_members.specs.Rooms.{RoomyMember, RoomyMembers, roomy_members, room_in}
 use Rattle.hla_base.proofs.Tables.{upd_same, upd_other}
 use Rattle.hla_members.proofs.Wires.{item-map, item-map-set}
 

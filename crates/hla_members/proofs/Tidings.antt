@@ -14,8 +14,8 @@ use Rattle.hla_order_queues.specs.declared.control.Control.TheVariants.{ToTell}
 use Rattle.hla_local.specs.LocalValue.{LocalValue}
 use Rattle.hla_local.specs.Telling.{local_told, local_untold}
 use Rattle.hla_retraction.specs.SentRows.{sent_of}
-use Rattle.hla_members.specs.MemberValue.{item, MemberValue, RoomyMember}
-use Rattle.hla_members.specs.Members.{no_member, members_of}
+use Rattle.hla_execution.specs.MemberValue.{item, MemberValue, no_member, members_of}
+use Rattle.hla_members.specs.Rooms.{RoomyMember}
 use Rattle.hla_members.proofs.MemberTables.{past, upd-self}
 use Rattle.hla_members.specs.Telling.{member_told, member_untold, with_all_told}
 

@@ -6,7 +6,8 @@ use Rattle.hla_null_message.specs.Wires.{WireValue}
 use Rattle.hla_null_message.specs.declared.message.Message.{Message}
 use Rattle.hla_machine.specs.declared.step.Carried.TheVariants as carried
 use Rattle.hla_components.specs.Locals.{carried_by}
-use Rattle.hla_members.specs.MemberValue.{item, incoming_of, IncomingValue}
+use Rattle.hla_execution.specs.MemberValue.{item}
+use Rattle.hla_members.specs.Rooms.{incoming_of, IncomingValue}
 use Rattle.hla_members.specs.Members.{carried_of}
 use Rattle.hla_members.proofs.MemberTables.{item-set}
 

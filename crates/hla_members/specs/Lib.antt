@@ -1,12 +1,12 @@
--- The values of members and of the wires to them
-pub mod MemberValue
 -- Wires from one federate, or to one
 pub mod Wiring
+-- How much the wires to members take without more memory
+pub mod Rooms
 -- What is noted of messages that may be retracted
 pub mod Noting
 -- The messages of an outbox
 pub mod Outboxes
--- Members as tables, and what is done with their wires
+-- What is done with members and their wires
 pub mod Members
 -- What services change of one component
 pub mod Changes

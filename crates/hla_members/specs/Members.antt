@@ -1,5 +1,5 @@
--- The members of a federation as tables, and what is done with their wires
-use Rattle.std.specs.Prelude.{ℕ, ◌+◌, ◌≡◌, ◌<◌, ◌≤◌, cond, eqb, ltb, not, ◌&&◌, Bool, true, false, List, [], ◌∷◌, ◌++◌, length, map, drop}
+-- What is done with the members of a federation and their wires
+use Rattle.std.specs.Prelude.{ℕ, ◌+◌, ◌≡◌, ◌<◌, ◌≤◌, cond, eqb, ltb, not, ◌&&◌, Bool, true, false, List, [], ◌∷◌, ◌++◌, length, drop}
 use Rattle.hla_base.specs.Tables.{upd, upd2, upd_row, upd_whole_column, is_other}
 use Rattle.hla_lbts.specs.declared.row.PeerRow.{PeerRow}
 use Rattle.hla_lbts.specs.Peers.{peers_of}
@@ -11,17 +11,13 @@ use Rattle.hla_machine.specs.declared.step.Carried.TheVariants as carried
 use Rattle.hla_local.specs.LocalValue.{LocalValue, new_local, resigned_local}
 use Rattle.hla_local.specs.Arriving.{MayCome, message_takes_memory, local_accepting, peers_accepting}
 use Rattle.hla_components.specs.Locals.{carried_by}
-use Rattle.hla_retraction.specs.SentEvents.{SentEvent}
-use Rattle.hla_retraction.specs.SentRows.{sent_of}
+use Rattle.hla_execution.specs.MemberValue.{MemberValue, MemberTables, item}
 use Rattle.hla_members.specs.declared.direction.Direction.{Direction}
 use Rattle.hla_members.specs.declared.direction.Direction.TheVariants.{From, To}
 use Rattle.hla_members.specs.Wiring.{is_along, peer_along}
-use Rattle.hla_members.specs.MemberValue.{MemberValue, RoomyMember, RoomyMembers, item}
+use Rattle.hla_members.specs.Rooms.{room_in}
 
 -- ---- one member
-abbrev pub no_member : MemberValue
-no_member = record { name = []; joined = false; next_serial = 1; local = new_local []; sent = []; incoming = [] }
-
 -- nothing is on these wires
 abbrev pub AreQuiet : List (List Message) → Type 0
 AreQuiet wires = (g : ℕ) → item [] wires g ≡ []
@@ -52,34 +48,6 @@ HasAccepted g (m ∷ ms) old new = (new ≡ record (local_accepting g m old) { p
 abbrev pub arrival_takes_memory : List Message → Bool
 arrival_takes_memory [] = false
 arrival_takes_memory (m ∷ ms) = message_takes_memory m
-
--- ---- all of them, as tables by number
-pub record MemberTables : Type 0 where
-  pub next_federate : ℕ
-  pub joined : ℕ → Bool
-  pub name : ℕ → List ℕ
-  pub serial : ℕ → ℕ
-  pub local : ℕ → LocalValue
-  pub wire : ℕ → ℕ → List Message  -- from, to
-  pub sent : ℕ → ℕ → SentEvent  -- by sender and serial
-
-abbrev pub members_of : List MemberValue → MemberTables
-members_of members = record {
-  next_federate = length members + 1;
-  joined = λ f. (item no_member members f).joined;
-  name = λ f. (item no_member members f).name;
-  serial = λ f. (item no_member members f).next_serial;
-  local = λ f. (item no_member members f).local;
-  wire = λ g f. item [] (item no_member members f).incoming g;
-  sent = λ f. sent_of (item no_member members f).sent;
-}
-
-abbrev pub roomy_members : List RoomyMember → ℕ → RoomyMembers
-roomy_members members spare = record { shown = map (λ (m : RoomyMember). m.shown) members; rooms = map (λ (m : RoomyMember). m.rooms) members; spare = spare }
-
--- how many more messages a wire takes without more memory
-abbrev pub room_in : List (List ℕ) → ℕ → ℕ → ℕ
-room_in rooms g h = item 0 (item [] rooms h) g
 
 -- is f below the end and counted from 1
 abbrev pub is_number : ℕ → ℕ → Bool

@@ -2,8 +2,9 @@
 use Rattle.std.specs.Prelude.{ℕ, cond, List, []}
 use Rattle.hla_base.specs.declared.notice.Notice.{Notice}
 use Rattle.hla_local.specs.Telling.{local_told, local_untold}
-use Rattle.hla_members.specs.MemberValue.{RoomyMember}
-use Rattle.hla_members.specs.Members.{MemberTables, no_member, with_component}
+use Rattle.hla_members.specs.Rooms.{RoomyMember}
+use Rattle.hla_execution.specs.MemberValue.{MemberTables, no_member}
+use Rattle.hla_members.specs.Members.{with_component}
 
 -- a joined federate is to be told these, and then the last of what it is to be given are taken back
 abbrev pub member_told : List Notice → RoomyMember → RoomyMember

@@ -5,9 +5,8 @@ ghost use Rattle.hla_base.specs.Limits.{max_joins};
 ghost use Rattle.hla_base.specs.declared.fault.Fault.TheVariants.{OutOfMemory};
 ghost use Rattle.hla_base.specs.Tables.{upd};
 ghost use Rattle.hla_null_message.specs.Wires.{put_behind};
-ghost use Rattle.hla_members.specs.MemberValue.{item};
-ghost use Rattle.hla_members.specs.Members.{AreQuiet, MayArrive, HasAccepted, carried_of};
-ghost use Rattle.hla_members.specs.Members.{arrival_takes_memory};
+ghost use Rattle.hla_execution.specs.MemberValue.{item};
+ghost use Rattle.hla_members.specs.Members.{AreQuiet, MayArrive, HasAccepted, carried_of, arrival_takes_memory};
 
 use crate::messages::carried_by;
 use hla_base::{Fault, FederateNo, MAX_JOINS};
@@ -27,7 +26,7 @@ pub struct Incoming {
 impl Model for Incoming {
     ghost use Rattle.hla_base.specs.Limits.{max_joins};
     ghost use Rattle.std.specs.Prelude.{◌≡◌, length};
-    ghost use Rattle.hla_members.specs.MemberValue.{IncomingValue, incoming_of};
+    ghost use Rattle.hla_members.specs.Rooms.{IncomingValue, incoming_of};
 
     ghost Value = { IncomingValue };
 

@@ -12,10 +12,9 @@ ghost use Rattle.hla_null_message.specs.Wires.{put_behind};
 ghost use Rattle.hla_retraction.specs.SentEvents.{no_event};
 ghost use Rattle.hla_retraction.specs.SentRows.{sent_of};
 ghost use Rattle.hla_members.specs.Noting.{noted_event, IsUnsentFrom};
-ghost use Rattle.hla_members.specs.MemberValue.{item};
-ghost use Rattle.hla_members.specs.Members.{carried_of, new_member, resigned_member, AreQuiet, MayArrive, HasAccepted};
+ghost use Rattle.hla_execution.specs.MemberValue.{item};
+ghost use Rattle.hla_members.specs.Members.{carried_of, new_member, resigned_member, AreQuiet, MayArrive, HasAccepted, arrival_takes_memory};
 ghost use Rattle.hla_members.specs.Changes.{changed_local, local_unconstrained, peers_lowered, MayChange};
-ghost use Rattle.hla_members.specs.Members.{arrival_takes_memory};
 ghost use Rattle.hla_members.specs.Telling.{member_told, member_untold};
 
 use crate::change::Change;
@@ -44,7 +43,7 @@ pub struct Member {
 }
 
 impl Model for Member {
-    ghost use Rattle.hla_members.specs.MemberValue.{RoomyMember};
+    ghost use Rattle.hla_members.specs.Rooms.{RoomyMember};
 
     ghost Value = { RoomyMember };
 

@@ -7,12 +7,12 @@ ghost use Rattle.hla_base.specs.Limits.{max_joins, largest_number};
 ghost use Rattle.hla_base.specs.declared.fault.Fault.TheVariants.{OutOfMemory};
 ghost use Rattle.hla_base.specs.Rows.{bar_of};
 ghost use Rattle.hla_base.specs.Tables.{upd, upd2, greatest, is_other, numbers_below};
-ghost use Rattle.hla_members.specs.Members.{members_of, room_in, IsEnd, AreQuiet, new_member, with_member_admitted, with_member_withdrawn, with_component, HasRoom, IsLessRoom, wires_posted_below, MayArrive, HasAccepted, carried_of, with_arrival, with_null_sent, HasRoomForOthers};
+ghost use Rattle.hla_execution.specs.MemberValue.{members_of, item};
+ghost use Rattle.hla_members.specs.Rooms.{room_in, RoomyMember};
+ghost use Rattle.hla_members.specs.Members.{IsEnd, AreQuiet, new_member, with_member_admitted, with_member_withdrawn, with_component, HasRoom, IsLessRoom, wires_posted_below, MayArrive, HasAccepted, carried_of, with_arrival, with_null_sent, HasRoomForOthers, arrival_takes_memory};
 ghost use Rattle.hla_members.specs.Outboxes.{messages_for};
 ghost use Rattle.hla_members.specs.Changes.{changed_local, local_unconstrained, entry_by, MayChange, AreLowered};
 ghost use Rattle.hla_members.specs.declared.direction.Direction.TheVariants.{From};
-ghost use Rattle.hla_members.specs.MemberValue.{item, RoomyMember};
-ghost use Rattle.hla_members.specs.Members.{arrival_takes_memory};
 ghost use Rattle.hla_lbts.specs.Peers.{peers_of};
 ghost use Rattle.hla_local.specs.LocalValue.{no_peers};
 ghost use Rattle.hla_local.specs.Picking.{PickConstrains, picked_by, local_pick, local_picking};
@@ -47,8 +47,7 @@ pub struct Members {
 impl Model for Members {
     ghost use Rattle.hla_base.specs.Limits.{max_joins, largest_number};
     ghost use Rattle.std.specs.Prelude.{length, ◌≤◌, ◌-◌, vec_len, vec_capacity};
-    ghost use Rattle.hla_members.specs.MemberValue.{RoomyMembers};
-    ghost use Rattle.hla_members.specs.Members.{roomy_members};
+    ghost use Rattle.hla_members.specs.Rooms.{RoomyMembers, roomy_members};
 
     ghost Value = { RoomyMembers };
 

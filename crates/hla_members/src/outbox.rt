@@ -4,7 +4,7 @@ ghost use Rattle.std.specs.Prelude.{◌≡◌, ◌<◌, ◌≤◌, ◌++◌, ◌
 ghost use Rattle.hla_base.specs.Limits.{max_joins};
 ghost use Rattle.hla_base.specs.declared.fault.Fault.TheVariants.{OutOfMemory};
 ghost use Rattle.hla_base.specs.Tables.{upd};
-ghost use Rattle.hla_members.specs.MemberValue.{item};
+ghost use Rattle.hla_execution.specs.MemberValue.{item};
 ghost use Rattle.hla_members.specs.Members.{AreQuiet};
 ghost use Rattle.hla_members.specs.Outboxes.{by_peer};
 

@@ -5,9 +5,9 @@ ghost use Rattle.hla_base.specs.declared.fault.Fault.TheVariants.{OutOfMemory};
 ghost use Rattle.hla_base.specs.Limits.{largest_number};
 ghost use Rattle.hla_base.specs.FederateSets.{federate_set};
 ghost use Rattle.hla_base.specs.Tables.{upd};
-ghost use Rattle.hla_members.specs.MemberValue.{item};
+ghost use Rattle.hla_execution.specs.MemberValue.{item, members_of};
 ghost use Rattle.hla_members.specs.declared.direction.Direction.TheVariants.{From};
-ghost use Rattle.hla_members.specs.Members.{members_of, wires_posted_below};
+ghost use Rattle.hla_members.specs.Members.{wires_posted_below};
 ghost use Rattle.hla_members.specs.Telling.{member_told, member_untold, nobody, with_all_told, with_one_told};
 
 use crate::direction::Direction;

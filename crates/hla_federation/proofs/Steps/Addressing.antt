@@ -21,8 +21,8 @@ use Rattle.hla_null_message.specs.declared.message.Message.{Message}
 use Rattle.hla_machine.specs.Directory.{Directory, AnInteraction, AnUpdate, ADeletion, reflection_of, subscribed_values}
 use Rattle.hla_federation.specs.declared.heading.Heading.{Heading}
 use Rattle.hla_federation.specs.FederationValue.{FederationValue}
-use Rattle.hla_members.specs.MemberValue.{item, MemberValue}
-use Rattle.hla_members.specs.Members.{no_member, members_of, is_number}
+use Rattle.hla_execution.specs.MemberValue.{item, MemberValue, no_member, members_of}
+use Rattle.hla_members.specs.Members.{is_number}
 use Rattle.hla_federation.specs.Steps.Sending.{HasAdded, said_messages, message_to, messages_among, null_to}
 use Rattle.hla_federation.specs.Steps.State.{state_of, IsWhole}
 use Rattle.hla_base.proofs.Tables.{upd_same, upd_other}

@@ -26,8 +26,8 @@ use Rattle.hla_components.specs.Invariant.{Inv}
 use Rattle.hla_components.specs.Next.{Outcomes, next, answer_outcome, announce_outcome, with_null_announced, with_regulation_enabled, components_seen}
 use Rattle.hla_components.proofs.Refinement.Runs.{each_step}
 use Rattle.hla_members.specs.Changes.{MayRegulate, AreLowered, peers_lowered, entry_by}
-use Rattle.hla_members.specs.MemberValue.{MemberValue}
-use Rattle.hla_members.specs.Members.{MemberTables, members_of, with_component, with_null_sent}
+use Rattle.hla_execution.specs.MemberValue.{MemberValue, MemberTables, members_of}
+use Rattle.hla_members.specs.Members.{with_component, with_null_sent}
 use Rattle.hla_synchronization.specs.Points.{Point}
 use Rattle.hla_federation.specs.Steps.Memory.{takes_memory}
 use Rattle.hla_federation.specs.Steps.Sending.{announcement}

@@ -26,8 +26,8 @@ use Rattle.hla_components.specs.Next.{next, with_row, done_outcome, components_s
 use Rattle.hla_synchronization.specs.OpenPoints.{points_of}
 use Rattle.hla_synchronization.specs.Points.{Point}
 use Rattle.hla_federation.specs.FederationValue.{FederationValue}
-use Rattle.hla_members.specs.MemberValue.{MemberValue}
-use Rattle.hla_members.specs.Members.{MemberTables, members_of, with_component}
+use Rattle.hla_execution.specs.MemberValue.{MemberValue, MemberTables, members_of}
+use Rattle.hla_members.specs.Members.{with_component}
 use Rattle.hla_machine.specs.Advancing.{request_service}
 use Rattle.hla_federation.specs.Steps.State.{state_of, state_from, IsWhole, IsUnmet}
 use Rattle.hla_members.proofs.MemberTables.{upd-self, upd-field}

@@ -32,7 +32,8 @@ use Rattle.hla_machine.specs.Directory.{with_points}
 use Rattle.hla_federation.proofs.Steps.Notifying.{told_newcomer}
 use Rattle.hla_federation.specs.Steps.Memory.{takes_memory, pick_takes_memory}
 use Rattle.hla_components.proofs.Services.Locals.{came as each_came}
-use Rattle.hla_members.specs.Members.{MemberTables, with_member_admitted, with_component, carried_of, MayArrive, HasAccepted}
+use Rattle.hla_execution.specs.MemberValue.{MemberTables}
+use Rattle.hla_members.specs.Members.{with_member_admitted, with_component, carried_of, MayArrive, HasAccepted}
 use Rattle.hla_federation.specs.Steps.State.{state_from, AreWhole, IsUnmet}
 use Rattle.hla_members.proofs.MemberTables.{upd-self, upd-field}
 use Rattle.hla_federation.proofs.Steps.Doing.{does_next}

@@ -25,7 +25,7 @@ use Rattle.hla_machine.specs.Directory.{Directory, by_handle, is_of_order, part_
 use Rattle.hla_machine.specs.Refusals.{refusal, call_tests, is_out_of_serials}
 use Rattle.hla_machine.specs.Sends.{sent_handle}
 use Rattle.hla_members.specs.Noting.{handle_noted}
-use Rattle.hla_members.specs.Members.{MemberTables}
+use Rattle.hla_execution.specs.MemberValue.{MemberTables}
 use Rattle.hla_components.specs.Components.{Components}
 use Rattle.hla_components.specs.Next.{Outcomes, answer_outcome, call_outcome, step_outcome, components_seen, unless_refused}
 use Rattle.hla_synchronization.specs.Points.{Point}

@@ -20,8 +20,8 @@ use Rattle.hla_machine.specs.Directory.{default_name}
 use Rattle.hla_object_registry.specs.Registered.{Registered, registry_of}
 use Rattle.hla_federation.specs.FederationValue.{FederationValue}
 use Rattle.hla_federation.specs.Steps.State.{AreWhole, IsWhole}
-use Rattle.hla_members.specs.MemberValue.{MemberValue}
-use Rattle.hla_members.specs.Members as members
+use Rattle.hla_execution.specs.MemberValue.{MemberValue}
+use Rattle.hla_execution.specs.MemberValue as members
 use Rattle.hla_federation.specs.Steps.Sending.{messages_among}
 
 known_push : (rs : List Receiver) (r : Receiver) (n : ℕ) (known : ℕ → ℕ → Bool) → with_known_among (rs ++ r ∷ []) n known ≡ upd2 (with_known_among rs n known) n r.federate true

@@ -31,8 +31,8 @@ use Rattle.hla_machine.specs.Directory.{joined_federates, with_points}
 use Rattle.hla_components.specs.Components.{Components}
 use Rattle.hla_components.specs.Next.{with_directory, with_notices, with_point_opened, with_complete_closed, notice_callback, content_callback}
 use Rattle.hla_components.specs.Locals.{callback_given, points_given}
-use Rattle.hla_members.specs.MemberValue.{MemberValue}
-use Rattle.hla_members.specs.Members.{MemberTables, members_of, with_member_withdrawn}
+use Rattle.hla_execution.specs.MemberValue.{MemberValue, MemberTables, members_of}
+use Rattle.hla_members.specs.Members.{with_member_withdrawn}
 use Rattle.hla_members.specs.Telling.{with_all_told, with_one_told}
 use Rattle.hla_synchronization.specs.declared.open_points.OpenPoint.{OpenPoint}
 use Rattle.hla_federation.specs.FederationValue.{FederationValue}

@@ -18,8 +18,7 @@ use Rattle.hla_components.specs.Invariant.{Inv}
 use Rattle.hla_federation.specs.declared.heading.Heading.{Heading}
 use Rattle.hla_members.specs.declared.note.Note.{Note}
 use Rattle.hla_federation.specs.FederationValue.{FederationValue}
-use Rattle.hla_members.specs.MemberValue.{item}
-use Rattle.hla_members.specs.Members.{no_member, members_of}
+use Rattle.hla_execution.specs.MemberValue.{item, no_member, members_of}
 use Rattle.hla_members.specs.Noting.{IsUnsentFrom, with_noted, handle_noted}
 use Rattle.hla_federation.specs.Steps.Sending.{order_stamp, heading_of, note_under}
 use Rattle.hla_federation.specs.Steps.State.{state_of}

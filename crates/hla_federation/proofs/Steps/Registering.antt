@@ -28,7 +28,8 @@ use Rattle.hla_machine.specs.Directory.{Directory, Object, served_object, discov
 use Rattle.hla_members.specs.declared.direction.Direction.TheVariants.{From}
 use Rattle.hla_federation.specs.Steps.Discovering.{with_known_among, discovery_to}
 use Rattle.hla_components.specs.Invariant.{DirectoryInv}
-use Rattle.hla_members.specs.Members.{MemberTables, wires_posted_below, is_number}
+use Rattle.hla_execution.specs.MemberValue.{MemberTables}
+use Rattle.hla_members.specs.Members.{wires_posted_below, is_number}
 use Rattle.hla_federation.specs.Steps.State.{state_from, directory_from}
 use Rattle.hla_components.specs.Next.{put_discoveries, with_object_registered}
 use Rattle.hla_federation.specs.Steps.Sending.{messages_among}

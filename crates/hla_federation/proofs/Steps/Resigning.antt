@@ -26,8 +26,8 @@ use Rattle.hla_machine.specs.declared.step.Step.TheVariants.{Call}
 use Rattle.hla_machine.specs.Refusals.{Seen, refusal}
 use Rattle.hla_members.specs.declared.direction.Direction.TheVariants.{From}
 use Rattle.hla_components.specs.Components.{Components}
-use Rattle.hla_members.specs.MemberValue.{item, MemberValue}
-use Rattle.hla_members.specs.Members.{no_member, MemberTables, members_of, is_number, wires_posted_below, with_member_withdrawn}
+use Rattle.hla_execution.specs.MemberValue.{item, MemberValue, no_member, MemberTables, members_of}
+use Rattle.hla_members.specs.Members.{is_number, wires_posted_below, with_member_withdrawn}
 use Rattle.hla_null_message.specs.Wires.{put_behind, put_all_behind}
 use Rattle.hla_null_message.proofs.Wires.{HasNoNull, put_all-append, put_all-no_null}
 use Rattle.hla_synchronization.specs.Points.{Point, closing, left_open, closing_of}

@@ -18,8 +18,8 @@ use Rattle.hla_components.specs.Components.{Components}
 use Rattle.hla_components.specs.Next.{components_seen}
 use Rattle.hla_members.specs.declared.direction.Direction.TheVariants.{From}
 use Rattle.hla_federation.specs.FederationValue.{FederationValue}
-use Rattle.hla_members.specs.MemberValue.{MemberValue}
-use Rattle.hla_members.specs.Members.{MemberTables, members_of, is_number, wires_posted_below, with_retraction_sent}
+use Rattle.hla_execution.specs.MemberValue.{MemberValue, MemberTables, members_of}
+use Rattle.hla_members.specs.Members.{is_number, wires_posted_below, with_retraction_sent}
 use Rattle.hla_members.specs.Noting.{with_retracted}
 use Rattle.hla_federation.specs.Steps.Sending.{retraction_to}
 use Rattle.hla_federation.specs.Steps.State.{AreWhole, IsWhole, state_of}

@@ -21,10 +21,10 @@ use Rattle.hla_members.specs.declared.direction.Direction.TheVariants.{From}
 use Rattle.hla_components.specs.Components.{Components}
 use Rattle.hla_synchronization.specs.OpenPoints.{points_of}
 use Rattle.hla_federation.specs.FederationValue.{FederationValue}
-use Rattle.hla_members.specs.MemberValue.{item, MemberValue}
+use Rattle.hla_execution.specs.MemberValue.{item, MemberValue, MemberTables, members_of}
 use Rattle.hla_null_message.proofs.Wires.{put_all-no_null}
 use Rattle.hla_federation.proofs.Steps.NoNulls.{messages_no_null}
-use Rattle.hla_members.specs.Members.{MemberTables, members_of, wires_posted_below, is_number, AreQuiet}
+use Rattle.hla_members.specs.Members.{wires_posted_below, is_number, AreQuiet}
 use Rattle.hla_components.specs.Next.{answer_outcome, send_outcome, with_messages_sent, with_directory}
 use Rattle.hla_federation.specs.Steps.Sending.{HasAdded, heading_of, message_to, messages_to}
 use Rattle.hla_federation.specs.Steps.State.{AreWhole, IsWhole, state_of, state_from}

@@ -17,8 +17,7 @@ use Rattle.hla_synchronization.specs.OpenPoints.{points_of}
 use Rattle.hla_federation.specs.FederationValue.{FederationValue}
 use Rattle.hla_components.specs.Headline.{IsLedTo, happening}
 use Rattle.hla_components.specs.Invariant.{Inv}
-use Rattle.hla_members.specs.MemberValue.{item, MemberValue}
-use Rattle.hla_members.specs.Members.{no_member, members_of}
+use Rattle.hla_execution.specs.MemberValue.{item, MemberValue, no_member, members_of}
 use Rattle.hla_components.specs.Next.{next}
 use Rattle.hla_federation.specs.Steps.Memory.{IsRefusedWith}
 use Rattle.hla_federation.specs.Steps.Soundness.{IsSound}

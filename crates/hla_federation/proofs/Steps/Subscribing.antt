@@ -20,8 +20,8 @@ use Rattle.hla_object_registry.specs.Registered.{Registered, RegistryValue, regi
 use Rattle.hla_members.specs.declared.direction.Direction.TheVariants.{To}
 use Rattle.hla_federation.specs.FederationValue.{FederationValue}
 use Rattle.hla_components.specs.Invariant.{EachOf, DirectoryInv}
-use Rattle.hla_members.specs.MemberValue.{MemberValue}
-use Rattle.hla_members.specs.Members.{MemberTables, members_of, wires_posted_below, is_number}
+use Rattle.hla_execution.specs.MemberValue.{MemberValue, MemberTables, members_of}
+use Rattle.hla_members.specs.Members.{wires_posted_below, is_number}
 use Rattle.hla_components.specs.Next.{with_class_subscribed}
 use Rattle.hla_federation.specs.Steps.State.{state_of, state_from, AreWhole, IsWhole}
 use Rattle.hla_base.proofs.Tables.{upd2_other}

@@ -20,7 +20,7 @@ use Rattle.hla_base.specs.FederateSets.{federate_set}
 use Rattle.hla_machine.specs.Directory.{Directory, Outgoing, AnUpdate, put_pair, put_pairs, by_handle, is_of_order, is_receiver, part_sent, values_of_order, update_sent, order_of_attribute}
 use Rattle.hla_members.specs.declared.note.Note.{Note}
 use Rattle.hla_members.specs.Noting.{IsUnsentFrom, with_noted, handle_noted}
-use Rattle.hla_members.specs.MemberValue.{item}
+use Rattle.hla_execution.specs.MemberValue.{item}
 use Rattle.hla_members.specs.Members.{AreQuiet}
 use Rattle.hla_federation.specs.Steps.Sending.{HasAdded, heading_of, message_to, messages_to, note_under, part_to}
 use Rattle.hla_federation.proofs.Steps.SendingAll.{sent_events}

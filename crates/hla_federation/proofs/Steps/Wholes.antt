@@ -9,8 +9,8 @@ use Rattle.hla_catalogue.specs.declared.declared.Order.{Order}
 use Rattle.hla_declaration.specs.Declarations.{DeclarationsValue}
 use Rattle.hla_lbts.specs.Peers.{peers_of}
 use Rattle.hla_local.specs.LocalValue.{LocalValue, resigned_local}
-use Rattle.hla_members.specs.MemberValue.{MemberValue}
-use Rattle.hla_members.specs.Members.{MemberTables, members_of, with_member_admitted}
+use Rattle.hla_execution.specs.MemberValue.{MemberValue, MemberTables, members_of}
+use Rattle.hla_members.specs.Members.{with_member_admitted}
 use Rattle.hla_members.proofs.MemberTables.{past}
 use Rattle.hla_federation.specs.Steps.State.{AreWhole, IsUnmet}
 use Rattle.hla_base.proofs.Tables.{upd_other, upd_same, upd2_other, upd_each}

@@ -20,7 +20,7 @@ use Rattle.hla_machine.specs.Refusals.{is_bad_stamp}
 use Rattle.hla_machine.specs.Sends.{is_told}
 use Rattle.hla_federation.specs.declared.heading.Heading.{Heading}
 use Rattle.hla_members.specs.declared.note.Note.{Note}
-use Rattle.hla_members.specs.MemberValue.{item}
+use Rattle.hla_execution.specs.MemberValue.{item}
 
 -- the stamp with which a message goes in time-stamp order: its order says so, its sender regulates and gave one
 abbrev pub order_stamp : TimeRow → Order → Option ℕ → Option ℕ

@@ -17,7 +17,7 @@ use Rattle.hla_machine.specs.Directory.{default_name}
 use Rattle.hla_machine.specs.Refusals.{refusal}
 use Rattle.hla_components.specs.Next.{next, answer_outcome, components_seen}
 use Rattle.hla_federation.specs.Steps.Memory.{IsRefusedWith}
-use Rattle.hla_members.specs.Members.{MemberTables, members_of}
+use Rattle.hla_execution.specs.MemberValue.{MemberTables, members_of}
 use Rattle.hla_federation.specs.FederationValue.{FederationValue}
 pub use Rattle.hla_execution.specs.StateOf.{directory_from, state_from, state_of}
 

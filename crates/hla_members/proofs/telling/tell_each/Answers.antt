@@ -1,6 +1,6 @@
 -- One after another is told; where one is refused, it is taken back from those before it.
 use Rattle.std.proofs.Common.{◌≡◌, List, ◌++◌, map, take, drop, set, length, true, false, is_err, sym, ap, ◌∙◌, arith}
-use Rattle.hla_members.specs.MemberValue.{RoomyMember}
+use Rattle.hla_members.specs.Rooms.{RoomyMember}
 use Rattle.hla_members.specs.Telling.{member_told, member_untold}
 use Rattle.hla_members.proofs.Tidings.{changed_more, undone, set_kept, held_ok, held_err}
 use Rattle.hla_members.proofs.telling.tell_each.Goals as goal

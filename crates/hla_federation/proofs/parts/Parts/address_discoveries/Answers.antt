@@ -1,6 +1,6 @@
 use Rattle.std.proofs.Common.{[], ◌++◌, refl, sym, ◌∙◌}
 use Rattle.std.proofs.lemmas.List.{at_drop_all, append-nil}
-use Rattle.hla_members.specs.MemberValue.{item}
+use Rattle.hla_execution.specs.MemberValue.{item}
 use Rattle.hla_federation.specs.Steps.Discovering.{discovery_to}
 use Rattle.hla_federation.specs.Steps.Sending.{messages_among}
 use Rattle.hla_federation.proofs.Steps.Addressing.{put_more}

@@ -1,5 +1,5 @@
 use Rattle.std.proofs.Common.{◌≡◌, ℕ, [], ◌++◌, drop}
-use Rattle.hla_members.specs.MemberValue.{item}
+use Rattle.hla_execution.specs.MemberValue.{item}
 use Rattle.hla_federation.specs.Steps.Discovering.{discovery_to}
 use Rattle.hla_federation.specs.Steps.Sending.{messages_among}
 use Rattle.hla_federation.proofs.parts.Parts.address_discoveries.Given as goal

@@ -8,7 +8,7 @@ use Rattle.hla_null_message.specs.declared.message.Message.TheVariants as messag
 use Rattle.hla_machine.specs.Directory.{Directory, discovery_of, discovery_at, with_subscribed}
 use Rattle.hla_object_registry.specs.Registered.{registry_of}
 use Rattle.hla_federation.specs.FederationValue.{FederationValue}
-use Rattle.hla_members.specs.MemberValue.{item}
+use Rattle.hla_execution.specs.MemberValue.{item}
 use Rattle.hla_federation.specs.Steps.State.{state_of}
 use Rattle.hla_components.proofs.Services.Discoveries.{discovery_tells}
 use Rattle.hla_federation.proofs.Steps.FoundObjects.{made_below, made_first, put_one, found_some, found_none, when_none, last_made, none_made}

@@ -13,7 +13,7 @@ use Rattle.hla_null_message.specs.declared.message.Message.TheVariants as messag
 use Rattle.hla_base.specs.FederateSets as told
 use Rattle.hla_machine.specs.Directory.{AnUpdate}
 use Rattle.hla_federation.specs.FederationValue.{FederationValue}
-use Rattle.hla_members.specs.MemberValue.{item}
+use Rattle.hla_execution.specs.MemberValue.{item}
 use Rattle.hla_federation.specs.Steps.Sending.{said_messages, messages_among}
 use Rattle.hla_federation.specs.Steps.Reflecting.{event_messages}
 use Rattle.hla_federation.specs.Steps.State.{state_of}

@@ -12,7 +12,8 @@ use Rattle.hla_members.specs.declared.change.Change.TheVariants as change
 use Rattle.hla_members.specs.Changes.{changed_local}
 use Rattle.hla_synchronization.specs.OpenPoints.{points_of}
 use Rattle.hla_federation.specs.FederationValue.{FederationValue}
-use Rattle.hla_members.specs.Members.{MemberTables, members_of, with_component, with_null_sent}
+use Rattle.hla_execution.specs.MemberValue.{MemberTables, members_of}
+use Rattle.hla_members.specs.Members.{with_component, with_null_sent}
 use Rattle.hla_federation.specs.Steps.State.{state_of, state_from, IsWhole}
 use Rattle.hla_federation.proofs.Steps.Doing.{does_next}
 use Rattle.hla_federation.proofs.parts.Parts.announce.Goals as goal

@@ -9,7 +9,7 @@ use Rattle.hla_local.specs.Picking.{least_bound}
 use Rattle.hla_local.specs.Promising.{promise_of}
 use Rattle.hla_synchronization.specs.OpenPoints.{points_of}
 use Rattle.hla_federation.specs.FederationValue.{FederationValue}
-use Rattle.hla_members.specs.Members.{members_of}
+use Rattle.hla_execution.specs.MemberValue.{members_of}
 use Rattle.hla_federation.specs.Steps.Sending.{announcement}
 use Rattle.hla_federation.specs.Steps.State.{state_of}
 use Rattle.hla_federation.proofs.Steps.Announcing.{announced_by, not_announced}

@@ -7,7 +7,8 @@ use Rattle.hla_declaration.specs.Declarations as declared
 use Rattle.hla_object_registry.specs.Registered.{registry_of}
 use Rattle.hla_synchronization.specs.OpenPoints.{points_of}
 use Rattle.hla_federation.specs.FederationValue.{FederationValue}
-use Rattle.hla_members.specs.Members.{MemberTables, members_of, with_arrival}
+use Rattle.hla_execution.specs.MemberValue.{MemberTables, members_of}
+use Rattle.hla_members.specs.Members.{with_arrival}
 use Rattle.hla_components.specs.Next.{next, answer_outcome}
 use Rattle.hla_federation.specs.Steps.State.{state_of, state_from, IsUnmet}
 use Rattle.hla_federation.proofs.Steps.Doing.{does_next}

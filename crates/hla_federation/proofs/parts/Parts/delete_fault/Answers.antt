@@ -5,7 +5,7 @@ use Rattle.hla_object_registry.specs.Queries.{is_known_in}
 use Rattle.hla_object_registry.specs.Registered.{registry_of}
 use Rattle.hla_machine.specs.Directory.{ADeletion, deletion_sent, is_of_order, order_of_deletion}
 use Rattle.hla_federation.specs.FederationValue.{FederationValue}
-use Rattle.hla_members.specs.Members.{members_of}
+use Rattle.hla_execution.specs.MemberValue.{members_of}
 use Rattle.hla_federation.specs.Steps.State.{state_of}
 use Rattle.hla_federation.proofs.Steps.Stamps.{one_stamped, untimely_deletion, too_many_deletions, fine_deletion}
 use Rattle.hla_federation.proofs.Steps.Updates.{past_serials, within_serials}

@@ -12,8 +12,8 @@ use Rattle.hla_members.specs.declared.direction.Direction.TheVariants.{From}
 use Rattle.hla_federation.specs.declared.heading.Heading.{Heading}
 use Rattle.hla_components.specs.Components.{Components}
 use Rattle.hla_federation.specs.FederationValue.{FederationValue}
-use Rattle.hla_members.specs.MemberValue.{item}
-use Rattle.hla_members.specs.Members.{members_of, wires_posted_below}
+use Rattle.hla_execution.specs.MemberValue.{item, members_of}
+use Rattle.hla_members.specs.Members.{wires_posted_below}
 use Rattle.hla_components.specs.Next.{done_outcome, components_seen}
 use Rattle.hla_federation.specs.Steps.Sending.{heading_of, message_to}
 use Rattle.hla_federation.specs.Steps.State.{IsWhole, state_of}

@@ -13,7 +13,7 @@ use Rattle.hla_components.specs.Next.{Outcomes, next, components_seen}
 use Rattle.hla_synchronization.specs.OpenPoints.{points_of}
 use Rattle.hla_federation.specs.FederationValue.{FederationValue}
 use Rattle.hla_members.specs.Changes.{local_unconstrained}
-use Rattle.hla_members.specs.Members.{members_of}
+use Rattle.hla_execution.specs.MemberValue.{members_of}
 use Rattle.hla_federation.specs.Steps.State.{state_of}
 use Rattle.hla_federation.proofs.Steps.Changing.{component_whole, component_state, queues_changed}
 use Rattle.hla_federation.proofs.Steps.Doing.{does_next}

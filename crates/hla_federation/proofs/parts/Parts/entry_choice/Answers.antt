@@ -5,7 +5,7 @@ use Rattle.hla_machine.specs.declared.step.Choice.TheVariants as choice
 use Rattle.hla_machine.specs.declared.step.Step.TheVariants.{Call}
 use Rattle.hla_components.specs.Next.{Outcomes, next, components_seen}
 use Rattle.hla_federation.specs.FederationValue.{FederationValue}
-use Rattle.hla_members.specs.Members.{members_of}
+use Rattle.hla_execution.specs.MemberValue.{members_of}
 use Rattle.hla_federation.specs.Steps.State.{state_of}
 use Rattle.hla_federation.proofs.Steps.Announcing.{entry_is}
 use Rattle.hla_federation.proofs.Steps.Doing.{does_next}

@@ -3,7 +3,7 @@ use Rattle.hla_base.specs.declared.row.TimeRow.{TimeRow}
 use Rattle.hla_base.specs.Rows.{is_enabled, least_stamp}
 use Rattle.hla_local.specs.LocalValue.{LocalValue}
 use Rattle.hla_federation.specs.FederationValue.{FederationValue}
-use Rattle.hla_members.specs.Members.{members_of}
+use Rattle.hla_execution.specs.MemberValue.{members_of}
 use Rattle.hla_federation.specs.Steps.State.{state_of}
 use Rattle.hla_federation.proofs.Steps.Stamps.{no_stamp, in_time}
 use Rattle.hla_federation.proofs.parts.Parts.is_bad_stamp.Goals as goal

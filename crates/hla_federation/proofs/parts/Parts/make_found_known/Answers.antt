@@ -6,7 +6,7 @@ use Rattle.hla_object_registry.specs.Registered.{Registered, RegistryValue, regi
 use Rattle.hla_object_registry.proofs.Unregistered.{no_object_above}
 use Rattle.hla_synchronization.specs.OpenPoints.{points_of}
 use Rattle.hla_federation.specs.FederationValue.{FederationValue}
-use Rattle.hla_members.specs.Members.{members_of}
+use Rattle.hla_execution.specs.MemberValue.{members_of}
 use Rattle.hla_federation.specs.Steps.State.{state_of, directory_from}
 use Rattle.hla_federation.proofs.Steps.FoundObjects.{known_below, known_first, known_more, known_same, known_all, still_found, is_found}
 use Rattle.hla_federation.proofs.parts.Parts.make_found_known.Goals as goal

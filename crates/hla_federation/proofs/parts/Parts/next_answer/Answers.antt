@@ -8,7 +8,7 @@ use Rattle.hla_machine.specs.declared.step.Answer.TheVariants as answer
 use Rattle.hla_machine.specs.declared.step.Outcome.TheVariants as outcome
 use Rattle.hla_machine.specs.declared.step.Step.{Step}
 use Rattle.hla_components.specs.Next.{Outcomes, step_outcome}
-use Rattle.hla_members.specs.Members.{members_of}
+use Rattle.hla_execution.specs.MemberValue.{members_of}
 use Rattle.hla_synchronization.specs.OpenPoints.{points_of}
 use Rattle.hla_federation.specs.Steps.Memory.{foresight_takes_memory}
 use Rattle.hla_federation.specs.Steps.State.{state_of}

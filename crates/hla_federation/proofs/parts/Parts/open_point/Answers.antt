@@ -6,7 +6,7 @@ use Rattle.hla_object_registry.specs.Registered.{registry_of}
 use Rattle.hla_base.specs.declared.notice.NoticeKind.TheVariants as kind
 use Rattle.hla_synchronization.specs.Points.{notice, new_point}
 use Rattle.hla_synchronization.specs.OpenPoints.{points_of}
-use Rattle.hla_members.specs.Members.{members_of}
+use Rattle.hla_execution.specs.MemberValue.{members_of}
 use Rattle.hla_members.specs.Telling.{with_all_told, with_one_told}
 use Rattle.hla_federation.specs.FederationValue.{FederationValue}
 use Rattle.hla_federation.specs.Steps.State.{state_of, state_from}

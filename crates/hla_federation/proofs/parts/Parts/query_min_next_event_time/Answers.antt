@@ -10,7 +10,7 @@ use Rattle.hla_machine.specs.declared.step.Step.TheVariants.{Call}
 use Rattle.hla_components.specs.Next.{next, answer_outcome}
 use Rattle.hla_synchronization.specs.OpenPoints.{points_of}
 use Rattle.hla_federation.specs.FederationValue.{FederationValue}
-use Rattle.hla_members.specs.Members.{members_of}
+use Rattle.hla_execution.specs.MemberValue.{members_of}
 use Rattle.hla_federation.specs.Steps.State.{state_of, state_from}
 use Rattle.hla_federation.proofs.Steps.Declaring.{bound_of}
 use Rattle.hla_federation.proofs.Steps.Doing.{does_next}

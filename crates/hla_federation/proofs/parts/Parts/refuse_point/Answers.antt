@@ -5,7 +5,7 @@ use Rattle.hla_object_registry.specs.Registered.{registry_of}
 use Rattle.hla_base.specs.declared.notice.NoticeKind.TheVariants as kind
 use Rattle.hla_synchronization.specs.Points.{notice}
 use Rattle.hla_synchronization.specs.OpenPoints.{points_of}
-use Rattle.hla_members.specs.Members.{MemberTables, members_of}
+use Rattle.hla_execution.specs.MemberValue.{MemberTables, members_of}
 use Rattle.hla_members.proofs.Rooms.{on_ok}
 use Rattle.hla_federation.specs.FederationValue.{FederationValue}
 use Rattle.hla_federation.specs.Steps.State.{state_of, state_from}

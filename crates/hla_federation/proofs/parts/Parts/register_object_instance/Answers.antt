@@ -12,8 +12,8 @@ use Rattle.hla_federation.specs.contracts.parts.Parts.{the_view}
 use Rattle.hla_members.specs.declared.direction.Direction.TheVariants.{From}
 use Rattle.hla_federation.specs.Steps.Discovering.{AreFederates, discovery_to, with_known_among}
 use Rattle.hla_federation.specs.FederationValue.{FederationValue}
-use Rattle.hla_members.specs.MemberValue.{item, MemberValue}
-use Rattle.hla_members.specs.Members.{HasRoom, members_of, wires_posted_below}
+use Rattle.hla_execution.specs.MemberValue.{item, MemberValue, members_of}
+use Rattle.hla_members.specs.Members.{HasRoom, wires_posted_below}
 use Rattle.hla_machine.specs.declared.step.Answer.TheVariants as answer
 use Rattle.hla_components.specs.Components.{Components}
 use Rattle.hla_components.specs.Next.{components_seen, answer_outcome, with_object_registered}

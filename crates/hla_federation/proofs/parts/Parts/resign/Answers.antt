@@ -14,8 +14,8 @@ use Rattle.hla_base.specs.declared.notice.Notice.{Notice}
 use Rattle.hla_base.specs.Tables.{upd}
 use Rattle.hla_synchronization.specs.OpenPoints.{members_in}
 use Rattle.hla_members.specs.declared.direction.Direction.TheVariants.{From}
-use Rattle.hla_members.specs.MemberValue.{item, MemberValue}
-use Rattle.hla_members.specs.Members.{MemberTables, members_of, with_member_withdrawn, wires_posted_below}
+use Rattle.hla_execution.specs.MemberValue.{item, MemberValue, MemberTables, members_of}
+use Rattle.hla_members.specs.Members.{with_member_withdrawn, wires_posted_below}
 use Rattle.hla_members.specs.Telling.{with_all_told}
 use Rattle.hla_members.proofs.MemberTables.{past}
 use Rattle.hla_federation.proofs.Steps.Notifying.{members_are, withdrawn_away, whole_told}

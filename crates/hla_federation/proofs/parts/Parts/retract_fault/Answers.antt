@@ -5,7 +5,7 @@ use Rattle.hla_base.specs.Rows.{is_enabled, least_stamp}
 use Rattle.hla_retraction.specs.SentEvents.{may_retract}
 use Rattle.hla_local.specs.LocalValue.{LocalValue}
 use Rattle.hla_federation.specs.FederationValue.{FederationValue}
-use Rattle.hla_members.specs.Members.{members_of}
+use Rattle.hla_execution.specs.MemberValue.{members_of}
 use Rattle.hla_federation.specs.Steps.State.{state_of}
 use Rattle.hla_federation.proofs.parts.Parts.retract_fault.Goals as goal
 

@@ -4,7 +4,7 @@ use Rattle.hla_catalogue.specs.declared.declared.Order.TheVariants.{Timestamp}
 use Rattle.hla_declaration.specs.Declarations as declared
 use Rattle.hla_machine.specs.Directory.{AnInteraction, by_handle, interaction_sent, is_of_order, order_of_interaction}
 use Rattle.hla_federation.specs.FederationValue.{FederationValue}
-use Rattle.hla_members.specs.Members.{members_of}
+use Rattle.hla_execution.specs.MemberValue.{members_of}
 use Rattle.hla_federation.specs.Steps.State.{state_of}
 use Rattle.hla_federation.proofs.Steps.Stamps.{one_stamped, untimely_interaction, too_many_interactions, fine_interaction}
 use Rattle.hla_federation.proofs.Steps.Updates.{past_serials, within_serials}

@@ -4,8 +4,8 @@ use Rattle.hla_null_message.specs.declared.message.Message.{Message}
 use Rattle.hla_federation.specs.Steps.Sending.{retraction_to}
 use Rattle.hla_federation.specs.Steps.State.{state_of}
 use Rattle.hla_federation.specs.FederationValue.{FederationValue}
-use Rattle.hla_members.specs.MemberValue.{item, MemberValue}
-use Rattle.hla_members.specs.Members.{members_of, wires_posted_below, with_retraction_sent}
+use Rattle.hla_execution.specs.MemberValue.{item, MemberValue, members_of}
+use Rattle.hla_members.specs.Members.{wires_posted_below, with_retraction_sent}
 use Rattle.hla_federation.proofs.Steps.Retracting.{retraction_posted}
 use Rattle.hla_federation.proofs.Steps.Resigning.{joined_below}
 use Rattle.hla_federation.proofs.parts.Parts.send_retraction.Goals as goal

@@ -13,8 +13,8 @@ use Rattle.hla_synchronization.specs.OpenPoints.{points_of}
 use Rattle.hla_federation.specs.contracts.parts.Parts.{the_view}
 use Rattle.hla_members.specs.declared.direction.Direction.TheVariants.{To}
 use Rattle.hla_federation.specs.FederationValue.{FederationValue}
-use Rattle.hla_members.specs.MemberValue.{item, MemberValue}
-use Rattle.hla_members.specs.Members.{MemberTables, members_of, wires_posted_below}
+use Rattle.hla_execution.specs.MemberValue.{item, MemberValue, MemberTables, members_of}
+use Rattle.hla_members.specs.Members.{wires_posted_below}
 use Rattle.hla_components.specs.Next.{components_seen, answer_outcome}
 use Rattle.hla_federation.specs.Steps.State.{state_of, directory_from, IsWhole}
 use Rattle.hla_federation.proofs.Steps.Subscribing.{declarations_after, objects_after, members_after, subscribed_state, subscribed_whole}

@@ -5,7 +5,7 @@ use Rattle.hla_synchronization.specs.declared.open_points.OpenPoint.{OpenPoint}
 use Rattle.hla_machine.specs.declared.service.Service.TheVariants as service
 use Rattle.hla_machine.specs.declared.step.Answer.TheVariants as answer
 use Rattle.hla_machine.specs.declared.step.Step.TheVariants.{Call}
-use Rattle.hla_members.specs.MemberValue.{MemberValue}
+use Rattle.hla_execution.specs.MemberValue.{MemberValue, members_of}
 use Rattle.hla_members.proofs.MemberTables.{past}
 use Rattle.hla_components.specs.Components.{Components}
 use Rattle.hla_components.specs.Next.{answer_outcome}
@@ -13,7 +13,6 @@ use Rattle.hla_declaration.specs.Declarations as declared
 use Rattle.hla_object_registry.specs.Registered.{registry_of}
 use Rattle.hla_synchronization.specs.Points.{Point, with_point, achieved_by, closing, left_open, closing_of}
 use Rattle.hla_synchronization.specs.OpenPoints.{points_of, members_in}
-use Rattle.hla_members.specs.Members.{members_of}
 use Rattle.hla_members.specs.Telling.{with_all_told}
 use Rattle.hla_federation.specs.FederationValue.{FederationValue}
 use Rattle.hla_federation.specs.Steps.State.{state_from}

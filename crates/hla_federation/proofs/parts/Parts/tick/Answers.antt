@@ -11,14 +11,13 @@ use Rattle.hla_machine.specs.Refusals.{refusal}
 use Rattle.hla_machine.specs.declared.step.Outcome.TheVariants as outcome
 use Rattle.hla_synchronization.specs.OpenPoints.{points_of}
 use Rattle.hla_federation.specs.FederationValue.{FederationValue}
-use Rattle.hla_members.specs.Members.{MemberTables, members_of}
+use Rattle.hla_execution.specs.MemberValue.{MemberTables, members_of, MemberValue}
 use Rattle.hla_federation.specs.Steps.Answering.{answered_as}
 use Rattle.hla_federation.specs.Steps.State.{state_of, state_from, IsUnmet, EndsChosen}
 use Rattle.hla_federation.specs.Steps.Synchronizing.{points_told}
 use Rattle.hla_local.specs.Picking.{picked_by, local_pick}
 use Rattle.hla_federation.proofs.Steps.Notifying.{told_as}
 use Rattle.hla_federation.proofs.Steps.Doing.{does_next}
-use Rattle.hla_members.specs.MemberValue.{MemberValue}
 use Rattle.hla_federation.specs.Steps.Memory.{takes_memory}
 use Rattle.hla_federation.proofs.Steps.Declaring.{picked, pick_memory, unmet_picked}
 use Rattle.hla_federation.proofs.Steps.Wholes.{whole_same}

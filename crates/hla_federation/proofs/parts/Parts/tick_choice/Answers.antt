@@ -16,7 +16,7 @@ use Rattle.hla_components.specs.Locals.{choice_given}
 use Rattle.hla_components.specs.Next.{next}
 use Rattle.hla_synchronization.specs.OpenPoints.{points_of}
 use Rattle.hla_federation.specs.FederationValue.{FederationValue}
-use Rattle.hla_members.specs.Members.{members_of}
+use Rattle.hla_execution.specs.MemberValue.{members_of}
 use Rattle.hla_federation.specs.Steps.Memory.{choice_takes_memory, takes_memory}
 use Rattle.hla_federation.specs.Steps.State.{state_of}
 use Rattle.hla_federation.proofs.Steps.Changing.{handed_on, constrains, nothing_moves}

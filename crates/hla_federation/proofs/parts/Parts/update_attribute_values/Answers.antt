@@ -17,8 +17,8 @@ use Rattle.hla_members.specs.declared.direction.Direction.TheVariants.{From}
 use Rattle.hla_federation.specs.declared.heading.Heading.{Heading}
 use Rattle.hla_members.specs.declared.note.Note.{Note}
 use Rattle.hla_federation.specs.FederationValue.{FederationValue}
-use Rattle.hla_members.specs.MemberValue.{item}
-use Rattle.hla_members.specs.Members.{members_of, wires_posted_below}
+use Rattle.hla_execution.specs.MemberValue.{item, members_of}
+use Rattle.hla_members.specs.Members.{wires_posted_below}
 use Rattle.hla_members.specs.Noting.{IsUnsentFrom, with_noted, handle_noted}
 use Rattle.hla_components.specs.Next.{answer_outcome, components_seen}
 use Rattle.hla_federation.specs.Steps.Sending.{HasAdded, note_under, part_to}

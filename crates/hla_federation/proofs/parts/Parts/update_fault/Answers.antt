@@ -7,7 +7,7 @@ use Rattle.hla_object_registry.specs.Registered.{registry_of}
 use Rattle.hla_machine.specs.Directory.{update_sent}
 use Rattle.hla_machine.specs.Refusals.{is_published}
 use Rattle.hla_federation.specs.FederationValue.{FederationValue}
-use Rattle.hla_members.specs.Members.{members_of}
+use Rattle.hla_execution.specs.MemberValue.{members_of}
 use Rattle.hla_federation.specs.Steps.State.{state_of}
 use Rattle.hla_federation.proofs.Steps.Stamps.{any_stamped}
 use Rattle.hla_federation.proofs.Steps.Updates.{not_published, not_timely, too_many, no_fault, past_serials, within_serials}

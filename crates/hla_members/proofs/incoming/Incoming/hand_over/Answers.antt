@@ -3,7 +3,8 @@ use Rattle.std.proofs.Math.Seq.{map-set_same}
 use Rattle.hla_null_message.specs.declared.message.Message.{Message}
 use Rattle.hla_null_message.specs.Wires.{WireValue}
 use Rattle.hla_base.specs.Tables.{upd}
-use Rattle.hla_members.specs.MemberValue.{item, IncomingValue}
+use Rattle.hla_execution.specs.MemberValue.{item}
+use Rattle.hla_members.specs.Rooms.{IncomingValue}
 use Rattle.hla_members.proofs.Rooms.{on_ok, on_err}
 use Rattle.hla_members.proofs.Wires.{read_messages, set_messages}
 use Rattle.hla_members.proofs.incoming.Incoming.hand_over.Goals as goal

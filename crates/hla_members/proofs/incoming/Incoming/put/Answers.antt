@@ -1,7 +1,7 @@
 use Rattle.std.proofs.Common.{◌≤◌, ℕ, length, [], ap, ◌∙◌, arith}
 use Rattle.hla_null_message.specs.Wires.{put_behind, takes_room}
 use Rattle.hla_base.specs.Tables.{upd}
-use Rattle.hla_members.specs.MemberValue.{item}
+use Rattle.hla_execution.specs.MemberValue.{item}
 use Rattle.hla_base.proofs.Tables.{upd_same, upd_other}
 use Rattle.hla_members.proofs.Wires.{less_by_one, read_messages, read_room, set_messages, set_rooms}
 use Rattle.hla_members.proofs.incoming.Incoming.put.Goals as goal

@@ -2,7 +2,8 @@ use Rattle.std.proofs.Common.{◌≡◌, ◌≢◌, ◌≤◌, ◌-◌, ⊎_elim
 use Rattle.std.proofs.Math.Seq.{map-set_same}
 use Rattle.std.proofs.lemmas.Bool.{cases_eq}
 use Rattle.hla_null_message.specs.Wires.{WireValue}
-use Rattle.hla_members.specs.MemberValue.{item, IncomingValue}
+use Rattle.hla_execution.specs.MemberValue.{item}
+use Rattle.hla_members.specs.Rooms.{IncomingValue}
 use Rattle.hla_base.proofs.Tables.{upd_same, upd_other}
 use Rattle.hla_members.proofs.Wires.{read_room, set_rooms}
 use Rattle.hla_members.proofs.incoming.Incoming.reserve.Goals as goal

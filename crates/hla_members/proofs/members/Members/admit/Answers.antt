@@ -1,7 +1,7 @@
 use Rattle.std.proofs.Common.{List, [], ◌∷◌, ◌++◌, map, ap, ◌∙◌}
 use Rattle.std.proofs.lemmas.List.{map-append}
-use Rattle.hla_members.specs.MemberValue.{MemberValue, RoomyMember, RoomyMembers}
-use Rattle.hla_members.specs.Members.{members_of}
+use Rattle.hla_execution.specs.MemberValue.{MemberValue, members_of}
+use Rattle.hla_members.specs.Rooms.{RoomyMember, RoomyMembers}
 use Rattle.hla_members.proofs.MemberTables.{joined}
 use Rattle.hla_members.proofs.members.Members.admit.Goals as goal
 

@@ -1,7 +1,7 @@
 use Rattle.std.proofs.Common.{◌-◌, set, ap, ◌∙◌}
 use Rattle.hla_members.specs.Changes.{changed_local}
-use Rattle.hla_members.specs.MemberValue.{MemberValue, RoomyMember}
-use Rattle.hla_members.specs.Members.{members_of}
+use Rattle.hla_execution.specs.MemberValue.{MemberValue, members_of}
+use Rattle.hla_members.specs.Rooms.{RoomyMember}
 use Rattle.hla_members.proofs.Rooms.{read_shown, set_shown, within_shown}
 use Rattle.hla_members.proofs.MemberTables.{picked_up}
 use Rattle.hla_members.proofs.members.Members.change.Goals as goal

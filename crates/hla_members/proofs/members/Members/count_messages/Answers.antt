@@ -1,6 +1,5 @@
 use Rattle.std.proofs.Common.{◌+◌, ◌-◌, set, ap, ◌∙◌}
-use Rattle.hla_members.specs.MemberValue.{MemberValue}
-use Rattle.hla_members.specs.Members.{members_of}
+use Rattle.hla_execution.specs.MemberValue.{MemberValue, members_of}
 use Rattle.hla_members.proofs.Rooms.{read_shown, set_shown, within_shown}
 use Rattle.hla_members.proofs.MemberTables.{counted}
 use Rattle.hla_members.proofs.members.Members.count_messages.Goals as goal

@@ -4,7 +4,7 @@ use Rattle.hla_base.specs.Rows.{bar_of}
 use Rattle.hla_local.specs.LocalValue.{LocalValue}
 use Rattle.hla_local.specs.Promising.{entry_for}
 use Rattle.hla_members.specs.Changes.{entry_by}
-use Rattle.hla_members.specs.Members.{members_of}
+use Rattle.hla_execution.specs.MemberValue.{members_of}
 use Rattle.hla_members.proofs.Entries.{greatest_start, greatest_more, greatest_end}
 use Rattle.hla_members.proofs.members.Members.entry.Goals as goal
 use Rattle.hla_members.proofs.members.Members.entry.Goals.{then-peer-federate, else-peer-federate}

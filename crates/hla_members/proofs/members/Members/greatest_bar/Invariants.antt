@@ -1,7 +1,7 @@
 use Rattle.std.proofs.Common.{◌≡◌}
 use Rattle.hla_base.specs.Rows.{bar_of}
 use Rattle.hla_base.specs.Tables.{greatest}
-use Rattle.hla_members.specs.Members.{members_of}
+use Rattle.hla_execution.specs.MemberValue.{members_of}
 use Rattle.hla_members.proofs.members.Members.greatest_bar.Given as goal
 
 -- the greatest of those so far

@@ -3,8 +3,8 @@ use Rattle.std.proofs.Math.Path.{fun_ext}
 use Rattle.hla_lbts.specs.Peers.{PeersValue}
 use Rattle.hla_base.specs.Tables.{forever}
 use Rattle.hla_local.specs.LocalValue.{LocalValue}
-use Rattle.hla_members.specs.MemberValue.{MemberValue, RoomyMember}
-use Rattle.hla_members.specs.Members.{members_of}
+use Rattle.hla_execution.specs.MemberValue.{MemberValue, members_of}
+use Rattle.hla_members.specs.Rooms.{RoomyMember}
 use Rattle.hla_members.proofs.Rooms.{read_shown}
 use Rattle.hla_members.proofs.MemberTables.{met_none, met_more, met_all}
 use Rattle.hla_members.proofs.members.Members.introduce.Goals as goal

@@ -1,7 +1,7 @@
 use Rattle.std.proofs.Common.{◌≡◌, cond, ltb, ℕ}
 use Rattle.hla_base.specs.Tables.{forever}
 use Rattle.hla_lbts.specs.Peers.{peers_of}
-use Rattle.hla_members.specs.Members.{members_of}
+use Rattle.hla_execution.specs.MemberValue.{members_of}
 use Rattle.hla_members.proofs.members.Members.introduce.Given as goal
 
 -- what the federates so far announced last was taken over, and nothing else has changed

@@ -1,7 +1,7 @@
 use Rattle.std.proofs.Common.{refl, ap, sym, ◌∙◌}
 use Rattle.std.specs.List.{list_any}
-use Rattle.hla_members.specs.MemberValue.{MemberValue, RoomyMember, RoomyMembers}
-use Rattle.hla_members.specs.Members.{no_member}
+use Rattle.hla_execution.specs.MemberValue.{MemberValue, no_member}
+use Rattle.hla_members.specs.Rooms.{RoomyMember, RoomyMembers}
 use Rattle.hla_members.proofs.Finding.{any_member, any_map}
 use Rattle.hla_members.proofs.members.Members.is_any_joined.Goals as goal
 

@@ -1,5 +1,5 @@
 use Rattle.std.proofs.Common.{◌<◌, ◌+◌, length, ap, ◌∙◌, arith}
-use Rattle.hla_members.specs.MemberValue.{MemberValue}
+use Rattle.hla_execution.specs.MemberValue.{MemberValue}
 use Rattle.hla_members.proofs.Rooms.{read_shown, same_length}
 use Rattle.hla_members.proofs.members.Members.is_joined.Goals as goal
 

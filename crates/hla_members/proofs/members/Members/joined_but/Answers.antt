@@ -1,9 +1,9 @@
 -- One number after another is added or passed over.
-use Rattle.std.proofs.Common.{ℕ, ◌&&◌, eqb, not, Bool, true, false, sym, ap, ◌∙◌, arith}
+use Rattle.std.proofs.Common.{ℕ, eqb, not, Bool, true, sym, ap, ◌∙◌, arith}
 use Rattle.std.proofs.Math.Bool.{and-false}
 use Rattle.hla_base.specs.FederateSets.{federate_set}
 use Rattle.hla_base.specs.Tables.{upd, is_other}
-use Rattle.hla_members.specs.Members.{members_of}
+use Rattle.hla_execution.specs.MemberValue.{members_of}
 use Rattle.hla_members.proofs.Tidings.{passing_none, passing_more, passing_same, others_joined}
 use Rattle.hla_members.proofs.members.Members.joined_but.Goals as goal
 use Rattle.hla_members.proofs.members.Members.joined_but.Goals.{then-is_other, else-is_other}

@@ -2,7 +2,7 @@
 use Rattle.std.proofs.Common.{◌≡◌}
 use Rattle.hla_base.specs.FederateSets.{federate_set}
 use Rattle.hla_base.specs.Tables.{is_other}
-use Rattle.hla_members.specs.Members.{members_of}
+use Rattle.hla_execution.specs.MemberValue.{members_of}
 use Rattle.hla_members.proofs.Tidings.{passing_below}
 use Rattle.hla_members.proofs.members.Members.joined_but.Given as goal
 

@@ -1,5 +1,5 @@
 use Rattle.std.proofs.Common.{ap, ◌∙◌}
-use Rattle.hla_members.specs.MemberValue.{MemberValue}
+use Rattle.hla_execution.specs.MemberValue.{MemberValue}
 use Rattle.hla_members.proofs.Rooms.{read_shown}
 use Rattle.hla_members.proofs.members.Members.local.Goals as goal
 

@@ -4,8 +4,8 @@ use Rattle.std.proofs.lemmas.Bool.Decides.{nat_tests}
 use Rattle.hla_base.specs.Tables.{is_other}
 use Rattle.hla_lbts.specs.Peers.{peers_of}
 use Rattle.hla_members.specs.Changes.{peers_lowered}
-use Rattle.hla_members.specs.MemberValue.{MemberValue, RoomyMember, RoomyMembers}
-use Rattle.hla_members.specs.Members.{MemberTables, members_of}
+use Rattle.hla_execution.specs.MemberValue.{MemberValue, MemberTables, members_of}
+use Rattle.hla_members.specs.Rooms.{RoomyMember, RoomyMembers}
 use Rattle.hla_members.proofs.Lowering.{not_lowered, lowered_same, lowered_own, lowered_peers, lowered_all}
 use Rattle.hla_members.proofs.MemberTables.{picked_up, past}
 use Rattle.hla_members.proofs.Rooms.{read_shown, set_shown, within_shown}

@@ -2,7 +2,7 @@ use Rattle.std.proofs.Common.{◌≡◌, ℕ, cond, ltb, ◌&&◌}
 use Rattle.hla_base.specs.Tables.{is_other}
 use Rattle.hla_lbts.specs.Peers.{peers_of}
 use Rattle.hla_members.specs.Changes.{peers_lowered}
-use Rattle.hla_members.specs.Members.{members_of}
+use Rattle.hla_execution.specs.MemberValue.{members_of}
 use Rattle.hla_members.proofs.members.Members.lower.Given as goal
 
 -- the joined federates so far have learned of it, and nothing else has changed

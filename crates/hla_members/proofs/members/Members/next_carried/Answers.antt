@@ -1,5 +1,5 @@
 use Rattle.std.proofs.Common.{[], ap, ◌∙◌}
-use Rattle.hla_members.specs.MemberValue.{MemberValue, item}
+use Rattle.hla_execution.specs.MemberValue.{MemberValue, item}
 use Rattle.hla_members.specs.Members.{carried_of}
 use Rattle.hla_members.proofs.Rooms.{read_shown}
 use Rattle.hla_members.proofs.members.Members.next_carried.Goals as goal

@@ -2,8 +2,8 @@ use Rattle.std.proofs.Common.{◌-◌, set, Option, sym, ap, ◌∙◌}
 use Rattle.hla_base.specs.Tables.{upd}
 use Rattle.hla_retraction.specs.SentRows.{sent_of}
 use Rattle.hla_members.specs.declared.note.Note.{Note}
-use Rattle.hla_members.specs.MemberValue.{MemberValue, RoomyMember}
-use Rattle.hla_members.specs.Members.{members_of}
+use Rattle.hla_execution.specs.MemberValue.{MemberValue, members_of}
+use Rattle.hla_members.specs.Rooms.{RoomyMember}
 use Rattle.hla_members.specs.Noting.{noted_event, with_noted}
 use Rattle.hla_members.proofs.Rooms.{on_ok, read_shown, set_shown, within_shown, rooms_same}
 use Rattle.hla_members.proofs.MemberTables.{noted}

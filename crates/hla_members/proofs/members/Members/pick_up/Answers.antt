@@ -1,8 +1,7 @@
 use Rattle.std.proofs.Common.{◌-◌, set, sym, ap, ◌∙◌}
 use Rattle.hla_local.specs.Picking.{picked_by, local_pick, local_picking}
 use Rattle.hla_components.specs.Locals.{callback_given}
-use Rattle.hla_members.specs.MemberValue.{MemberValue}
-use Rattle.hla_members.specs.Members.{members_of}
+use Rattle.hla_execution.specs.MemberValue.{MemberValue, members_of}
 use Rattle.hla_members.proofs.Rooms.{on_ok, on_err, if_ok, read_shown, set_shown, same_shown, within_shown}
 use Rattle.hla_members.proofs.MemberTables.{picked_up}
 use Rattle.hla_members.proofs.members.Members.pick_up.Goals as goal

@@ -1,6 +1,6 @@
 use Rattle.std.proofs.Common.{◌≡◌, ◌≤◌, ◌⊎◌, inl, inr, ℕ, List, sym, ap, ◌∙◌, arith}
 use Rattle.hla_null_message.specs.declared.message.Message.{Message}
-use Rattle.hla_members.specs.Members.{members_of}
+use Rattle.hla_execution.specs.MemberValue.{members_of}
 use Rattle.hla_members.proofs.Posting.{posted_nothing, posted_one, less_room}
 use Rattle.hla_members.proofs.members.Members.post.Goals as goal
 use Rattle.hla_members.proofs.members.Members.post.Goals.{then-peer-eq0-via-then-peer-eq0, then-peer-eq0-via-else-peer-eq0+then-peer-end}

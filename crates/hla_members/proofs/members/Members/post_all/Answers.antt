@@ -4,8 +4,8 @@ use Rattle.std.proofs.lemmas.Iterator.Adapters.{YieldsList-from_vec}
 use Rattle.std.proofs.lemmas.Iterator.Consumers.{YieldsList-end}
 use Rattle.hla_null_message.specs.declared.message.Message.{Message}
 use Rattle.hla_members.specs.declared.addressed.Addressed.{Addressed}
-use Rattle.hla_members.specs.MemberValue.{item}
-use Rattle.hla_members.specs.Members.{HasRoom, IsEnd, MemberTables, members_of, wires_posted_below}
+use Rattle.hla_execution.specs.MemberValue.{item, MemberTables, members_of}
+use Rattle.hla_members.specs.Members.{HasRoom, IsEnd, wires_posted_below}
 use Rattle.hla_members.specs.Outboxes.{by_peer, messages_for}
 use Rattle.hla_members.proofs.Outboxes.{for-append, item_within}
 use Rattle.hla_members.proofs.Posting.{posted_none, posted_after, posted_same, room_made, room_first, room_rest}

@@ -1,5 +1,6 @@
 use Rattle.std.proofs.Common.{◌≡◌}
-use Rattle.hla_members.specs.Members.{HasRoom, members_of, wires_posted_below}
+use Rattle.hla_execution.specs.MemberValue.{members_of}
+use Rattle.hla_members.specs.Members.{HasRoom, wires_posted_below}
 use Rattle.hla_members.specs.Outboxes.{messages_for}
 use Rattle.hla_members.proofs.members.Members.post_all.Given as goal
 

@@ -3,8 +3,7 @@ use Rattle.hla_base.specs.Tables.{upd2, is_other}
 use Rattle.hla_null_message.specs.declared.message.Message.{Message}
 use Rattle.hla_null_message.specs.declared.message.Message.TheVariants as message
 use Rattle.hla_null_message.specs.Wires.{put_behind}
-use Rattle.hla_members.specs.MemberValue.{MemberValue}
-use Rattle.hla_members.specs.Members.{MemberTables, members_of}
+use Rattle.hla_execution.specs.MemberValue.{MemberValue, MemberTables, members_of}
 use Rattle.hla_members.proofs.Announcing.{nulls_first, nulls_same, nulls_more, nulls_all, room_behind, room_later}
 use Rattle.hla_members.proofs.MemberTables.{past}
 use Rattle.hla_members.proofs.members.Members.post_null.Goals as goal

@@ -1,5 +1,6 @@
 use Rattle.std.proofs.Common.{◌≡◌}
-use Rattle.hla_members.specs.Members.{members_of, nulls_below, HasRoomForOthers}
+use Rattle.hla_execution.specs.MemberValue.{members_of}
+use Rattle.hla_members.specs.Members.{nulls_below, HasRoomForOthers}
 use Rattle.hla_members.proofs.members.Members.post_null.Given as goal
 
 -- those so far were sent it, and there is room for the others

@@ -1,6 +1,5 @@
 use Rattle.std.proofs.Common.{◌-◌, set, ap, ◌∙◌}
-use Rattle.hla_members.specs.MemberValue.{MemberValue}
-use Rattle.hla_members.specs.Members.{members_of}
+use Rattle.hla_execution.specs.MemberValue.{MemberValue, members_of}
 use Rattle.hla_members.proofs.Rooms.{read_shown, read_rooms, set_shown, room_here, rooms_stay, within_shown}
 use Rattle.hla_members.proofs.MemberTables.{put}
 use Rattle.hla_members.proofs.members.Members.put.Goals as goal

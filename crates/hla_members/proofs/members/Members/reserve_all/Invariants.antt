@@ -1,5 +1,5 @@
 use Rattle.std.proofs.Common.{◌≡◌, []}
-use Rattle.hla_members.specs.MemberValue.{item}
+use Rattle.hla_execution.specs.MemberValue.{item}
 use Rattle.hla_members.specs.Members.{HasRoom}
 use Rattle.hla_members.proofs.members.Members.reserve_all.Given as goal
 

@@ -1,5 +1,6 @@
 use Rattle.std.proofs.Common.{◌≡◌}
-use Rattle.hla_members.specs.Members.{members_of, HasRoomForOthers}
+use Rattle.hla_execution.specs.MemberValue.{members_of}
+use Rattle.hla_members.specs.Members.{HasRoomForOthers}
 use Rattle.hla_members.proofs.members.Members.reserve_others.Given as goal
 
 -- there is room for those so far, and nothing else has changed

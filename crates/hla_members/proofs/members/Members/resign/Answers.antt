@@ -1,6 +1,6 @@
 use Rattle.std.proofs.Common.{◌-◌, set, ap, ◌∙◌}
-use Rattle.hla_members.specs.MemberValue.{MemberValue}
-use Rattle.hla_members.specs.Members.{members_of, resigned_member}
+use Rattle.hla_execution.specs.MemberValue.{MemberValue, members_of}
+use Rattle.hla_members.specs.Members.{resigned_member}
 use Rattle.hla_members.proofs.Rooms.{read_shown, set_shown, within_shown}
 use Rattle.hla_members.proofs.MemberTables.{left_all}
 use Rattle.hla_members.proofs.members.Members.resign.Goals as goal

@@ -1,8 +1,8 @@
 use Rattle.std.proofs.Common.{◌-◌, set, true, ap, ◌∙◌}
 use Rattle.hla_base.specs.Tables.{upd}
 use Rattle.hla_retraction.specs.SentRows.{sent_of}
-use Rattle.hla_members.specs.MemberValue.{MemberValue, RoomyMember}
-use Rattle.hla_members.specs.Members.{members_of}
+use Rattle.hla_execution.specs.MemberValue.{MemberValue, members_of}
+use Rattle.hla_members.specs.Rooms.{RoomyMember}
 use Rattle.hla_members.proofs.Rooms.{read_shown, set_shown, within_shown}
 use Rattle.hla_members.proofs.MemberTables.{written}
 use Rattle.hla_members.proofs.members.Members.retract.Goals as goal

@@ -2,8 +2,8 @@ use Rattle.std.proofs.Common.{◌+◌, List, [], IfSome, sym, ap, subst, ◌∙�
 use Rattle.hla_base.specs.Tables.{upd}
 use Rattle.hla_members.specs.declared.direction.Direction.TheVariants.{From}
 use Rattle.hla_members.specs.declared.note.Note.{Note}
-use Rattle.hla_members.specs.MemberValue.{item, MemberValue}
-use Rattle.hla_members.specs.Members.{MemberTables, members_of, wires_posted_below}
+use Rattle.hla_execution.specs.MemberValue.{item, MemberValue, MemberTables, members_of}
+use Rattle.hla_members.specs.Members.{wires_posted_below}
 use Rattle.hla_members.specs.Noting.{IsUnsentFrom}
 use Rattle.hla_members.proofs.Posting.{room_same}
 use Rattle.hla_members.proofs.members.Members.send_all.Goals as goal

@@ -1,8 +1,8 @@
 use Rattle.std.proofs.Common.{◌+◌, [], ap, ◌∙◌}
 use Rattle.hla_base.specs.Tables.{upd}
 use Rattle.hla_members.specs.declared.direction.Direction.TheVariants.{From}
-use Rattle.hla_members.specs.MemberValue.{item}
-use Rattle.hla_members.specs.Members.{MemberTables, wires_posted_below}
+use Rattle.hla_execution.specs.MemberValue.{item, MemberTables}
+use Rattle.hla_members.specs.Members.{wires_posted_below}
 use Rattle.hla_members.proofs.members.Members.send_and_tell_all.Goals as goal
 
 pub count_messages-requires-clause-serials : goal.count_messages-requires-clause-serials

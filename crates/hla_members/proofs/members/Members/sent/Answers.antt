@@ -1,6 +1,6 @@
 use Rattle.std.proofs.Common.{ap, ◌∙◌}
 use Rattle.hla_retraction.specs.SentRows.{sent_of}
-use Rattle.hla_members.specs.MemberValue.{MemberValue}
+use Rattle.hla_execution.specs.MemberValue.{MemberValue}
 use Rattle.hla_members.proofs.Rooms.{read_shown}
 use Rattle.hla_members.proofs.members.Members.sent.Goals as goal
 

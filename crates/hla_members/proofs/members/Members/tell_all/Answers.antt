@@ -1,7 +1,7 @@
 -- All that are joined are told, and no room on a wire changes.
 use Rattle.std.proofs.Common.{List, map, ap, ◌∙◌}
-use Rattle.hla_members.specs.MemberValue.{RoomyMember, RoomyMembers}
-use Rattle.hla_members.specs.Members.{members_of}
+use Rattle.hla_members.specs.Rooms.{RoomyMember, RoomyMembers}
+use Rattle.hla_execution.specs.MemberValue.{members_of}
 use Rattle.hla_members.specs.Telling.{with_all_told}
 use Rattle.hla_members.proofs.Rooms.{on_ok}
 use Rattle.hla_members.proofs.Tidings.{tables_told, rooms_kept}

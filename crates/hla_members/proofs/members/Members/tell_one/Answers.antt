@@ -1,7 +1,7 @@
 -- The component of the one is told.
 use Rattle.std.proofs.Common.{◌-◌, set, ap, ◌∙◌}
-use Rattle.hla_members.specs.MemberValue.{MemberValue, RoomyMember}
-use Rattle.hla_members.specs.Members.{members_of}
+use Rattle.hla_execution.specs.MemberValue.{MemberValue, members_of}
+use Rattle.hla_members.specs.Rooms.{RoomyMember}
 use Rattle.hla_members.proofs.Rooms.{on_ok, read_shown, set_shown, within_shown}
 use Rattle.hla_members.proofs.MemberTables.{picked_up}
 use Rattle.hla_members.proofs.Tidings.{one_told}

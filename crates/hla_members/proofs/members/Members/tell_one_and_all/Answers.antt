@@ -1,8 +1,8 @@
 -- The component of the one is told, and then all.
 use Rattle.std.proofs.Common.{◌-◌, ◌<◌, List, map, length, get_or, set, sym, ap, ◌∙◌, arith}
 use Rattle.std.proofs.lemmas.List.{get_or_default}
-use Rattle.hla_members.specs.MemberValue.{MemberValue, RoomyMember}
-use Rattle.hla_members.specs.Members.{members_of}
+use Rattle.hla_execution.specs.MemberValue.{MemberValue, members_of}
+use Rattle.hla_members.specs.Rooms.{RoomyMember}
 use Rattle.hla_members.specs.Telling.{nobody, member_told, with_all_told}
 use Rattle.hla_members.proofs.Rooms.{on_ok, read_shown, set_shown, within, within_shown}
 use Rattle.hla_members.proofs.MemberTables.{picked_up}

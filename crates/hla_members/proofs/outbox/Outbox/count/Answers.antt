@@ -1,6 +1,6 @@
 use Rattle.std.proofs.Common.{List, [], length, sym, ap, ◌∙◌}
 use Rattle.hla_null_message.specs.declared.message.Message.{Message}
-use Rattle.hla_members.specs.MemberValue.{item}
+use Rattle.hla_execution.specs.MemberValue.{item}
 use Rattle.hla_members.proofs.Outboxes.{item_within}
 use Rattle.hla_members.proofs.outbox.Outbox.count.Goals as goal
 

@@ -4,7 +4,7 @@ use Rattle.std.proofs.lemmas.List.Sums.{length-filter, count_by-le-length}
 use Rattle.hla_base.specs.Tables.{upd}
 use Rattle.hla_null_message.specs.declared.message.Message.{Message}
 use Rattle.hla_members.specs.declared.addressed.Addressed.{Addressed}
-use Rattle.hla_members.specs.MemberValue.{item}
+use Rattle.hla_execution.specs.MemberValue.{item}
 use Rattle.hla_members.specs.Outboxes.{by_peer}
 use Rattle.hla_members.proofs.Outboxes.{by_peer_more}
 use Rattle.hla_members.proofs.outbox.Outbox.put.Goals as goal
