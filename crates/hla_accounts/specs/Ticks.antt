@@ -86,6 +86,14 @@ is_not_before accounts g m s w =
 abbrev pub is_first_key : List Account → ℕ → ℕ → ℕ → ℕ → Bool
 is_first_key accounts f g m s = list_all (is_not_before accounts g m s) (account_at accounts f).bag
 
+-- a message does not go before g's with serial m and stamp s, nor is it an earlier one of g with this stamp
+abbrev pub is_behind : List Account → ℕ → ℕ → ℕ → Waiting → Bool
+is_behind accounts g m s w = is_not_before accounts g m s w && is_not_earlier_of_stamp g m s w
+
+-- all that waits for f is behind
+abbrev pub is_first_in_turn : List Account → ℕ → ℕ → ℕ → ℕ → Bool
+is_first_in_turn accounts f g m s = list_all (is_behind accounts g m s) (account_at accounts f).bag
+
 -- of equal stamps a strict request takes the least key
 abbrev pub is_least_key : List Account → ℕ → AdvanceRequest → ℕ → ℕ → ℕ → Bool
 is_least_key accounts f q g m s = not (is_strict q.kind) || is_first_key accounts f g m s
@@ -93,8 +101,8 @@ is_least_key accounts f q g m s = not (is_strict q.kind) || is_first_key account
 -- what an advance picks up in time-stamp order
 abbrev pub may_pick : List Account → ℕ → AdvanceRequest → ℕ → ℕ → ℕ → Bool
 may_pick accounts f q g m s =
-    not (is_retracted accounts g m) && leb s q.asked && is_below_bound accounts f (reach q.kind s) && is_below_all_tso accounts f s
-    && is_at_first_pick (account_at accounts f).state q s && is_least_key accounts f q g m s
+    not (is_retracted accounts g m) && leb s q.asked && is_at_first_pick (account_at accounts f).state q s
+    && is_below_bound accounts f (reach q.kind s) && is_below_all_tso accounts f s && is_least_key accounts f q g m s
 
 -- a flush picks up all that is not in the federate's past
 abbrev pub may_pick_as : Bool → List Account → ℕ → AdvanceRequest → ℕ → ℕ → ℕ → Bool
@@ -104,6 +112,10 @@ may_pick_as false accounts f q g m s = may_pick accounts f q g m s
 -- f may pick up g's message with serial m and stamp s in time-stamp order, if it waits so
 abbrev pub may_pick_now : List Account → ℕ → ℕ → ℕ → ℕ → Bool
 may_pick_now accounts f g m s = option_map_or (λ q. may_pick_as (is_flush q.kind) accounts f q g m s) (account_at accounts f).state.advance false
+
+-- and none of g's earlier messages with this stamp waits for f
+abbrev pub may_pick_in_turn : List Account → ℕ → ℕ → ℕ → ℕ → Bool
+may_pick_in_turn accounts f g m s = may_pick_now accounts f g m s && is_first_of_stamp accounts f g m s
 
 -- no discovery of the object waits
 abbrev pub has_no_offer : List Offer → ℕ → Bool
@@ -119,7 +131,7 @@ is_discovered accounts f (content.Removal object) = has_no_offer (account_at acc
 abbrev pub may_deliver : List Account → ℕ → ℕ → ℕ → Content → Delivery → Bool → Bool
 may_deliver accounts f g m x Receive waits = may_receive (account_at accounts f).state && is_discovered accounts f x && waits && is_first_ro accounts f g m
 may_deliver accounts f g m x (Demoted stamp) waits = may_receive (account_at accounts f).state && is_discovered accounts f x && waits
-may_deliver accounts f g m x (TimeStamp stamp) waits = is_constrained (account_at accounts f).state && is_discovered accounts f x && waits && may_pick_now accounts f g m stamp && is_first_of_stamp accounts f g m stamp
+may_deliver accounts f g m x (TimeStamp stamp) waits = is_constrained (account_at accounts f).state && is_discovered accounts f x && waits && may_pick_in_turn accounts f g m stamp
 
 -- ---- becoming constrained
 -- the event waits in time-stamp order, with a stamp below the time

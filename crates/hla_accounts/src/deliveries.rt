@@ -89,8 +89,7 @@ impl Accounts {
                 account.state.is_constrained()
                     && is_discovered
                     && waits
-                    && self.may_pick_now(federate, event, stamp)
-                    && self.is_first_of_stamp(federate, event, stamp)
+                    && self.may_pick_in_turn(federate, event, stamp)
             }
         }
     }

@@ -1,13 +1,13 @@
 //! What a federate may be given at a tick, as tests of accounts (HLA 1.3, time management).
 
-ghost use Rattle.std.specs.Prelude.{◌≡◌, ◌≤◌, min, Some, List, take};
+ghost use Rattle.std.specs.Prelude.{◌≡◌, ◌≤◌, ◌&&◌, min, Some, List, take};
 ghost use Rattle.std.specs.List.{list_all};
 ghost use Rattle.hla_base.specs.Limits.{max_time};
 ghost use Rattle.hla_base.specs.Rows.{grant_time, is_constrained, is_flush, least_of, RowNumbers};
 ghost use Rattle.hla_accounts.specs.Accounts.{account_at};
 ghost use Rattle.hla_accounts.specs.declared.bag.Waiting.{Waiting};
 ghost use Rattle.hla_accounts.specs.Indexes.{IsIndexingOf};
-ghost use Rattle.hla_accounts.specs.Ticks.{is_nothing_due, is_advance_held, may_tick_in_vain, is_flush_granted, is_granted_as, may_grant, may_receive, is_not_earlier, is_first_ro, is_not_earlier_of_stamp, is_first_of_stamp, is_at_first_pick, is_key_le, is_not_before, is_first_key, may_pick, may_pick_now};
+ghost use Rattle.hla_accounts.specs.Ticks.{is_nothing_due, is_advance_held, may_tick_in_vain, is_flush_granted, is_granted_as, may_grant, may_receive, is_not_earlier, is_first_ro, is_not_earlier_of_stamp, is_first_of_stamp, is_at_first_pick, is_key_le, is_behind, is_first_in_turn, is_least_key, may_pick, may_pick_in_turn};
 
 use crate::accounts::Accounts;
 use crate::bag::Waiting;
@@ -178,7 +178,7 @@ impl Accounts {
 
     /// Whether no earlier message of the same sender waits for a federate in time-stamp order with this stamp, in ticks. It takes
     /// the time of `is_first_ro`.
-    pub fn is_first_of_stamp(&self, federate: FederateNo, event: EventHandle, stamp: Ticks) -> bool
+    fn is_first_of_stamp(&self, federate: FederateNo, event: EventHandle, stamp: Ticks) -> bool
         ensures { result ≡ is_first_of_stamp self.now federate event.sender event.serial stamp }
     {
         let Some(account) = self.get(federate) else {
@@ -253,62 +253,91 @@ impl Accounts {
         }
     }
 
-    /// Whether a message does not go before another with this stamp, in ticks: it is retracted, or goes in receive order, or
-    /// has another stamp, or its key is not below.
-    fn is_not_before(&self, event: EventHandle, stamp: Ticks, waiting: &Waiting) -> bool
-        ensures { result ≡ is_not_before self.now event.sender event.serial stamp waiting.now }
+    /// Whether a message neither goes before another with this stamp, in ticks, nor is an earlier one of the same sender: it goes
+    /// in receive order, or has another stamp, or its key is not below, or it is retracted and of another sender.
+    fn is_behind(&self, event: EventHandle, stamp: Ticks, waiting: &Waiting) -> bool
+        ensures { result ≡ is_behind self.now event.sender event.serial stamp waiting.now }
     {
         match ordered_stamp(waiting.delivery) {
             Some(other) => {
                 other != stamp
                     || is_key_le(event, waiting.event)
-                    || self.is_retracted(waiting.event)
+                    || (waiting.event.sender != event.sender && self.is_retracted(waiting.event))
             }
             None => true,
         }
     }
 
-    /// Whether none of these messages goes before another with this stamp, in ticks. It looks at each.
-    fn are_not_before(&self, event: EventHandle, stamp: Ticks, waiting: &[Waiting]) -> bool
+    /// Whether none of these messages goes before another with this stamp, in ticks, or is an earlier one of the same sender. It
+    /// looks at each.
+    fn are_behind(&self, event: EventHandle, stamp: Ticks, waiting: &[Waiting]) -> bool
         ensures { result
-            ≡ list_all (is_not_before self.now event.sender event.serial stamp) waiting.now }
+            ≡ list_all (is_behind self.now event.sender event.serial stamp) waiting.now }
     {
         waiting
             .iter()
-            .all(|waiting| self.is_not_before(event, stamp, waiting))
+            .all(|waiting| self.is_behind(event, stamp, waiting))
     }
 
-    /// Whether none of what an index has with this stamp, in ticks, and was not retracted has a key below that of an event.
-    fn is_first_indexed_key(&self, indexing: &Indexing, event: EventHandle, stamp: Ticks) -> bool
+    /// Whether all that an index has with this stamp, in ticks, and a key below that of an event was retracted, and is of other
+    /// senders.
+    fn is_first_indexed_in_turn(
+        &self,
+        indexing: &Indexing,
+        event: EventHandle,
+        stamp: Ticks,
+    ) -> bool
         ensures { (ws : List Waiting) → IsIndexingOf ws indexing.now
-            → result ≡ list_all (is_not_before self.now event.sender event.serial stamp)
+            → result ≡ list_all (is_behind self.now event.sender event.serial stamp)
             (take indexing.now.count ws) }
     {
         match &indexing.index {
-            Some(index) => index
-                .ordered_before(event, stamp)
-                .all(|key| self.is_retracted(key.event())),
+            Some(index) => index.ordered_before(event, stamp).all(|key| {
+                key.sender != event.sender && self.is_retracted(key.event())
+            }),
             None => true,
         }
     }
 
-    /// Whether none of what waits for a federate with this stamp, in ticks, has a key below that of an event. The time grows
-    /// with the logarithm of what is in the index of what waits for the federate, with what of it was retracted, and with what
-    /// was put since a message was taken out.
-    fn is_first_key(&self, federate: FederateNo, event: EventHandle, stamp: Ticks) -> bool
-        ensures { result ≡ is_first_key self.now federate event.sender event.serial stamp }
+    /// Whether none of what waits for a federate with this stamp, in ticks, goes before an event, or is an earlier one of the same
+    /// sender, retracted or not. The time grows with the logarithm of what is in the index of what waits for the federate, with
+    /// what of it was retracted, and with what was put since a message was taken out.
+    fn is_first_in_turn(&self, federate: FederateNo, event: EventHandle, stamp: Ticks) -> bool
+        ensures { result
+            ≡ is_first_in_turn self.now federate event.sender event.serial stamp }
     {
         let Some(account) = self.get(federate) else {
             return true;
         };
         let indexing = account.bag.indexing();
         let tail = indexing.tail(account.bag.as_slice());
-        self.is_first_indexed_key(indexing, event, stamp) && self.are_not_before(event, stamp, tail)
+        self.is_first_indexed_in_turn(indexing, event, stamp) && self.are_behind(event, stamp, tail)
     }
 
-    /// Whether an advance that is no flush picks up an event with this stamp, in ticks: it is not retracted, its stamp is at
-    /// most the asked time, and nothing before it waits or can still come.
-    fn may_pick(
+    /// Whether it is an event's turn among what waits for a federate with this stamp, in ticks: no earlier message of the same
+    /// sender does, and for a strict request none that goes before it. It takes the time of `is_first_in_turn` for a strict
+    /// request, and that of `is_first_of_stamp` for another.
+    fn is_in_turn(
+        &self,
+        federate: FederateNo,
+        request: AdvanceRequest,
+        event: EventHandle,
+        stamp: Ticks,
+    ) -> bool
+        ensures { result
+            ≡ (is_least_key self.now federate request event.sender event.serial stamp
+            && is_first_of_stamp self.now federate event.sender event.serial stamp) }
+    {
+        if request.kind.is_strict() {
+            self.is_first_in_turn(federate, event, stamp)
+        } else {
+            self.is_first_of_stamp(federate, event, stamp)
+        }
+    }
+
+    /// Whether an advance that is no flush picks up an event with this stamp, in ticks, in its turn: it is not retracted, its
+    /// stamp is at most the asked time, and nothing before it waits or can still come.
+    fn is_picked_in_turn(
         &self,
         federate: FederateNo,
         row: &TimeRow,
@@ -318,28 +347,33 @@ impl Accounts {
     ) -> bool
         requires row { row.now ≡ (account_at self.now federate).state }
         requires asked { request.asked ≤ max_time }
-        ensures { result ≡ may_pick self.now federate request event.sender event.serial stamp }
+        ensures { result
+            ≡ (may_pick self.now federate request event.sender event.serial stamp
+            && is_first_of_stamp self.now federate event.sender event.serial stamp) }
     {
         if self.is_retracted(event) || stamp > request.asked {
             return false;
         }
-        self.is_below_bound(federate, reach(request.kind, stamp))
+        is_at_first_pick(row, request, stamp)
+            && self.is_below_bound(federate, reach(request.kind, stamp))
             && self.is_below_all_tso(federate, stamp)
-            && is_at_first_pick(row, request, stamp)
-            && (!request.kind.is_strict() || self.is_first_key(federate, event, stamp))
+            && self.is_in_turn(federate, request, event, stamp)
     }
 
-    /// Whether a federate may pick up an event with this stamp, in ticks, in time-stamp order, if it waits so.
-    pub fn may_pick_now(&self, federate: FederateNo, event: EventHandle, stamp: Ticks) -> bool
-        ensures { result ≡ may_pick_now self.now federate event.sender event.serial stamp }
+    /// Whether a federate may pick up an event with this stamp, in ticks, in time-stamp order and in its turn, if it waits so.
+    pub fn may_pick_in_turn(&self, federate: FederateNo, event: EventHandle, stamp: Ticks) -> bool
+        ensures { result
+            ≡ may_pick_in_turn self.now federate event.sender event.serial stamp }
     {
         let Some(account) = self.get(federate) else {
             return false;
         };
         let row = account.state.row();
         match row.advance {
-            Some(request) if request.kind.is_flush() => row.time <= stamp,
-            Some(request) => self.may_pick(federate, &row, request, event, stamp),
+            Some(request) if request.kind.is_flush() => {
+                row.time <= stamp && self.is_first_of_stamp(federate, event, stamp)
+            }
+            Some(request) => self.is_picked_in_turn(federate, &row, request, event, stamp),
             None => false,
         }
     }

@@ -156,6 +156,17 @@ kept_demoted_none ws x place p e w v kept is l read ordered demoted above =
     }
 
 -- ---- tests of all that waits
+-- all pass both tests exactly where all pass the one and all the other
+pub all_of_both : (a b : Waiting → Bool) (ws : List Waiting) → list_all (λ w. a w && b w) ws ≡ (list_all a ws && list_all b ws)
+all_of_both a b [] = refl
+all_of_both a b (w ∷ ws) = ap (λ r. (a w && b w) && r) (all_of_both a b ws) ∙ swapped (a w) (b w) (list_all a ws) (list_all b ws)
+  where
+    swapped : (p q r s : Bool) → ((p && q) && (r && s)) ≡ ((p && r) && (q && s))
+    swapped false q r s = refl
+    swapped true true r s = refl
+    swapped true false true s = refl
+    swapped true false false s = refl
+
 -- where all that the index has passes, it is as the tail says
 pub rest_decides : (test : Waiting → Bool) (ws : List Waiting) (k : ℕ) (a b : Bool) → a ≡ list_all test (take k ws) → a ≡ true → b ≡ list_all test (drop k ws) → b ≡ list_all test ws
 rest_decides test ws k a b head passed tail = tail ∙ ap (λ x. x && list_all test (drop k ws)) (sym passed ∙ head) ∙ sym (split_all test k ws)

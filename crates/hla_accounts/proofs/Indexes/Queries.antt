@@ -20,13 +20,17 @@ use Rattle.hla_accounts.specs.declared.index.Name.{Name}
 use Rattle.hla_accounts.specs.declared.index.Index.{Index}
 use Rattle.hla_accounts.specs.Bags.{is_listed, AreApart}
 use Rattle.hla_accounts.specs.Bounds.{is_retracted, ordered_stamp, demoted_stamp, is_at_most_waiting}
-use Rattle.hla_accounts.specs.Ticks.{is_among_if_below, is_sent_in_receive_order, is_not_earlier, is_not_earlier_of_stamp, is_key_le, is_not_before}
+use Rattle.hla_accounts.specs.Ticks.{is_among_if_below, is_sent_in_receive_order, is_not_earlier, is_not_earlier_of_stamp, is_key_le, is_behind}
 use Rattle.hla_accounts.specs.Calls.{is_at_most_demoted}
 use Rattle.hla_accounts.specs.Indexes.{waiting_name_cmp, HasNamesOf, key_at, is_ordered_below, is_demoted_below, is_ordered_before, is_stamped_before, is_received_before, delivery_at, IsIndexOf}
 use Rattle.hla_accounts.proofs.Indexes.Ranges.{all_in_range}
 
 abbrev pub is_key_retracted : List Account → Key → Bool
 is_key_retracted accounts k = is_retracted accounts k.sender k.serial
+
+-- of what has the stamp of one of g's messages and a key below, what is no reason to wait
+abbrev pub is_passed_over : List Account → ℕ → Key → Bool
+is_passed_over accounts g k = not (eqb k.sender g) && is_key_retracted accounts k
 
 abbrev pub is_key_among : List Account → List EventHandle → Key → Bool
 is_key_among accounts events k = is_key_retracted accounts k || is_listed events k.sender k.serial
@@ -127,25 +131,37 @@ demoted_keys accounts x i ws kept apart = all_in_range i ws kept apart (is_at_mo
     by r g m (TimeStamp s) = or_true r
     by r g m (Demoted s) = at_most x s r ∙ ap (λ b. not b || r) (sym (stamps_below x s g m))
 
-pub first_keys : (accounts : List Account) (g m z : ℕ) (i : Index) (ws : List Waiting) → IsIndexOf i (delivery_at ws) → AreApart ws → list_all (is_not_before accounts g m z) ws ≡ list_all (is_key_retracted accounts) (filter (is_ordered_before g m z) i.keys.keys)
-first_keys accounts g m z i ws kept apart = all_in_range i ws kept apart (is_not_before accounts g m z) (is_ordered_before g m z) (is_key_retracted accounts) (λ w. by (is_retracted accounts w.event.sender w.event.serial) w.event.sender w.event.serial w.delivery)
+-- of what has the stamp and a key below, what is behind is of another sender and retracted
+passed_over : (g m h n : ℕ) (r a : Bool) → ((r || not a || is_key_le g m h n) && (not a || not (eqb h g && ltb n m))) ≡ (not (a && not (is_key_le g m h n)) || (not (eqb h g) && r))
+passed_over g m h n r a = ap (λ l. (r || not a || is_key_le g m h n) && (not a || not l)) own ∙ by r a (is_key_le g m h n) (eqb h g)
   where
-    passed : (r a k : Bool) → (r || not a || k) ≡ (not (a && not k) || r)
-    passed true true true = refl
-    passed true true false = refl
-    passed true false k = refl
-    passed false true true = refl
-    passed false true false = refl
-    passed false false k = refl
+    own : (eqb h g && ltb n m) ≡ (eqb h g && not (is_key_le g m h n))
+    own = grind (arith, nat_tests)
 
-    other : (r k : Bool) → (r || true || k) ≡ true
+    by : (r a k e : Bool) → ((r || not a || k) && (not a || not (e && not k))) ≡ (not (a && not k) || (not e && r))
+    by true false k e = refl
+    by false false k e = refl
+    by true true true true = refl
+    by true true true false = refl
+    by true true false true = refl
+    by true true false false = refl
+    by false true true true = refl
+    by false true true false = refl
+    by false true false true = refl
+    by false true false false = refl
+
+pub keys_in_turn : (accounts : List Account) (g m z : ℕ) (i : Index) (ws : List Waiting) → IsIndexOf i (delivery_at ws) → AreApart ws → list_all (is_behind accounts g m z) ws ≡ list_all (is_passed_over accounts g) (filter (is_ordered_before g m z) i.keys.keys)
+keys_in_turn accounts g m z i ws kept apart = all_in_range i ws kept apart (is_behind accounts g m z) (is_ordered_before g m z) (is_passed_over accounts g) (λ w. by (is_retracted accounts w.event.sender w.event.serial) w.event.sender w.event.serial w.delivery)
+  where
+    other : (r k : Bool) → ((r || true || k) && true) ≡ true
     other true k = refl
     other false k = refl
 
-    by : (r : Bool) (h n : ℕ) (d : Delivery) → (r || option_map_or (λ y. not (eqb y z)) (ordered_stamp d) true || is_key_le g m h n) ≡ (not (is_ordered_before g m z (key_at h n d)) || r)
+    by : (r : Bool) (h n : ℕ) (d : Delivery) →
+        ((r || option_map_or (λ y. not (eqb y z)) (ordered_stamp d) true || is_key_le g m h n) && (option_map_or (λ y. not (eqb y z)) (ordered_stamp d) true || not (eqb h g && ltb n m))) ≡ (not (is_ordered_before g m z (key_at h n d)) || (not (eqb h g) && r))
     by r h n Receive = other r (is_key_le g m h n)
     by r h n (Demoted s) = other r (is_key_le g m h n)
-    by r h n (TimeStamp s) = passed r (eqb s z) (is_key_le g m h n) ∙ ap (λ b. not b || r) (sym (keys_before z s g m h n))
+    by r h n (TimeStamp s) = passed_over g m h n r (eqb s z) ∙ ap (λ b. not b || (not (eqb h g) && r)) (sym (keys_before z s g m h n))
 
 pub among_keys : (accounts : List Account) (x : ℕ) (events : List EventHandle) (i : Index) (ws : List Waiting) → IsIndexOf i (delivery_at ws) → AreApart ws →
     list_all (is_among_if_below accounts x events) ws ≡ list_all (is_key_among accounts events) (filter (is_ordered_below x) i.keys.keys)

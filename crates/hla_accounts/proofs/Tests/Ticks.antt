@@ -28,7 +28,7 @@ use Rattle.hla_accounts.specs.declared.bag.Waiting.{Waiting}
 use Rattle.hla_accounts.specs.Bags.{waiting_at, is_listed}
 use Rattle.hla_accounts.specs.Accounts.{account_at, offers_from, times_listed, copy_of, copy_given, copy_at, central_with, AreKept}
 use Rattle.hla_accounts.specs.Bounds.{is_retracted, ordered_stamp, is_below_all_tso, is_below_bound, has_reached}
-use Rattle.hla_accounts.specs.Ticks.{is_nothing_due, is_advance_held, may_tick_in_vain, is_flush_granted, is_granted_as, may_grant, may_receive, is_sent_in_receive_order, is_not_earlier, is_first_ro, is_not_earlier_of_stamp, is_first_of_stamp, is_at_first_pick, is_key_le, is_not_before, is_least_key, may_pick, may_pick_as, may_pick_now, has_no_offer, is_discovered, may_deliver, is_moved_below, is_among_if_below, are_below, may_constrain}
+use Rattle.hla_accounts.specs.Ticks.{is_nothing_due, is_advance_held, may_tick_in_vain, is_flush_granted, is_granted_as, may_grant, may_receive, is_sent_in_receive_order, is_not_earlier, is_first_ro, is_not_earlier_of_stamp, is_first_of_stamp, is_at_first_pick, is_key_le, is_not_before, is_least_key, may_pick, may_pick_as, may_pick_now, may_pick_in_turn, has_no_offer, is_discovered, may_deliver, is_moved_below, is_among_if_below, are_below, may_constrain}
 use Rattle.hla_accounts.proofs.Tests.Bounds.{each_decided, Decides-leb, below_all_tso_decided, below_bound_decided, reached_decided}
 
 -- ---- tests of optional values
@@ -266,16 +266,16 @@ module _ (d : Directory) (accounts : List Account) (kept : AreKept accounts) whe
   may_pick_decided f q e s =
       let r = (account_at accounts f).state in
       Decides-like (may_pick accounts f q e.sender e.serial s)
-      (λ p. record { unretracted = p.0.0.0.0.0; asked = p.0.0.0.0.1; bound = p.0.0.0.1; first = p.0.0.1; at_first_pick = p.0.1; least_key = p.1 })
-      (λ p. (((((p.unretracted, p.asked), p.bound), p.first), p.at_first_pick), p.least_key))
+      (λ p. record { unretracted = p.0.0.0.0.0; asked = p.0.0.0.0.1; at_first_pick = p.0.0.0.1; bound = p.0.0.1; first = p.0.1; least_key = p.1 })
+      (λ p. (((((p.unretracted, p.asked), p.at_first_pick), p.bound), p.first), p.least_key))
       (Decides-and _ (is_least_key accounts f q e.sender e.serial s)
-      (Decides-and _ (is_at_first_pick r q s)
       (Decides-and _ (is_below_all_tso accounts f s)
       (Decides-and _ (is_below_bound accounts f (reach q.kind s))
+      (Decides-and _ (is_at_first_pick r q s)
       (Decides-and (not (is_retracted accounts e.sender e.serial)) (leb s q.asked) (not_decided (is_retracted accounts e.sender e.serial)) (Decides-leb s q.asked))
+      (at_first_pick_decided r q s))
       (below_bound_decided d accounts kept f (reach q.kind s)))
       (below_all_tso_decided d accounts f s (kept.apart f)))
-      (at_first_pick_decided r q s))
       (least_key_decided f q e s))
 
   may_pick_as_decided : (flush : Bool) (f : ℕ) (q : AdvanceRequest) (e : EventHandle) (s : ℕ) →
@@ -302,12 +302,10 @@ module _ (d : Directory) (accounts : List Account) (kept : AreKept accounts) whe
       (Decides-and _ waits (Decides-and (may_receive r) (is_discovered accounts f x) (may_receive_decided r) (discovered_decided d accounts f x)) h)
   may_deliver_decided f e x (TimeStamp stamp) waits h =
       let r = (account_at accounts f).state in
-      Decides-like (may_deliver accounts f e.sender e.serial x (TimeStamp stamp) waits) (λ p. (p.0.0.0.0, p.0.0.0.1, p.0.0.1, p.0.1, p.1)) (λ p. ((((p.0, p.1), p.2), p.3), p.4))
-      (Decides-and _ (is_first_of_stamp accounts f e.sender e.serial stamp)
-      (Decides-and _ (may_pick_now accounts f e.sender e.serial stamp)
+      Decides-like (may_deliver accounts f e.sender e.serial x (TimeStamp stamp) waits) (λ p. (p.0.0.0, p.0.0.1, p.0.1, p.1.0, p.1.1)) (λ p. (((p.0, p.1), p.2), (p.3, p.4)))
+      (Decides-and _ (may_pick_in_turn accounts f e.sender e.serial stamp)
       (Decides-and _ waits (Decides-and (is_constrained r) (is_discovered accounts f x) (λ t. t, λ t. t) (discovered_decided d accounts f x)) h)
-      (may_pick_now_decided f e stamp))
-      (first_of_stamp_decided f e stamp))
+      (Decides-and (may_pick_now accounts f e.sender e.serial stamp) (is_first_of_stamp accounts f e.sender e.serial stamp) (may_pick_now_decided f e stamp) (first_of_stamp_decided f e stamp)))
 
   -- ---- becoming constrained
   pub may_constrain_decided : (f t : ℕ) (events : List EventHandle) → Decides (may_constrain accounts f t events) (MayConstrain (central_with d accounts) f t (choice.Moved events))
