@@ -2,6 +2,7 @@
 //! it is granted.
 
 use crate::faults;
+use crate::services::{BookedService, Kind};
 use crate::texts::{FOREVER, cut, ticks};
 
 /// The greatest time, stamp and lookahead.
@@ -12,16 +13,6 @@ pub enum Role {
     Disabled,
     Pending,
     Enabled,
-}
-
-/// One of the five requests to advance.
-#[derive(Clone, Copy)]
-pub struct Kind {
-    /// Whether it leaves nothing behind at the time of its grant.
-    pub is_strict: bool,
-    /// Whether it is a next-event request.
-    pub is_next: bool,
-    pub is_flush: bool,
 }
 
 /// An advance that was asked for and not granted yet.
@@ -50,34 +41,6 @@ pub struct Clock {
     pub bar: u64,
     pub epoch: u32,
     pub last_announced: u64,
-}
-
-impl Kind {
-    /// The request that a word of a script makes.
-    pub fn of(word: &str) -> Option<Kind> {
-        let (is_strict, is_next, is_flush) = match word {
-            "tar" => (true, false, false),
-            "tara" => (false, false, false),
-            "ner" => (true, true, false),
-            "nera" => (false, true, false),
-            "fqr" => (false, false, true),
-            _ => return None,
-        };
-        Some(Kind {
-            is_strict,
-            is_next,
-            is_flush,
-        })
-    }
-
-    /// The first time that a grant at a time leaves open.
-    pub fn reach(self, time: u64) -> u64 {
-        if self.is_strict {
-            time.saturating_add(1)
-        } else {
-            time
-        }
-    }
 }
 
 impl Clock {
@@ -147,34 +110,32 @@ impl Clock {
         }
     }
 
-    /// Whether it may ask for an advance to a time.
-    pub fn may_ask(self, asked: u64) -> bool {
-        !self.is_advancing()
-            && !matches!(self.regulating, Role::Pending)
-            && !matches!(self.constrained, Role::Pending)
-            && self.time <= asked
-    }
-
-    /// The fault with which a service of time management is refused that these words of a script call, if it is.
-    pub fn refusal(self, verb: &str, words: &str) -> Option<u32> {
+    /// The fault with which a service of time management is refused that has these words, if it is; with none it is done.
+    pub fn refusal(self, service: BookedService, words: &str) -> Option<u32> {
         let (time, lookahead) = cut(words);
-        match verb {
-            "regulate" => self.regulation_refusal(ticks(time), ticks(lookahead)),
-            "constrain" => self.constraint_refusal(),
-            "unregulate" => fault_where(!self.is_regulating(), faults::NOT_REGULATING),
-            "unconstrain" => self.busy().or(fault_where(
+        match service {
+            BookedService::Regulate => self.regulation_refusal(ticks(time), ticks(lookahead)),
+            BookedService::Constrain => self.constraint_refusal(),
+            BookedService::Unregulate => {
+                fault_where(!self.is_regulating(), faults::NOT_REGULATING)
+            }
+            BookedService::Unconstrain => self.busy().or(fault_where(
                 !self.is_constrained(),
                 faults::NOT_CONSTRAINED,
             )),
-            "modifyLookahead" => fault_where(!self.is_regulating(), faults::NOT_REGULATING)
-                .or(self.busy())
-                .or(fault_where(ticks(time) > MAX_TIME, faults::BAD_LOOKAHEAD)),
-            "asyncOn" => fault_where(self.is_asynchronous, faults::ASYNCHRONOUS),
-            "asyncOff" => fault_where(!self.is_asynchronous, faults::NOT_ASYNCHRONOUS),
-            _ => match Kind::of(verb) {
-                Some(_) => self.request_refusal(ticks(time)),
-                None => None,
-            },
+            BookedService::ModifyLookahead => {
+                fault_where(!self.is_regulating(), faults::NOT_REGULATING)
+                    .or(self.busy())
+                    .or(fault_where(ticks(time) > MAX_TIME, faults::BAD_LOOKAHEAD))
+            }
+            BookedService::TurnAsyncOn => {
+                fault_where(self.is_asynchronous, faults::ASYNCHRONOUS)
+            }
+            BookedService::TurnAsyncOff => {
+                fault_where(!self.is_asynchronous, faults::NOT_ASYNCHRONOUS)
+            }
+            BookedService::Request(_) => self.request_refusal(ticks(time)),
+            _ => None,
         }
     }
 
@@ -249,13 +210,6 @@ impl Clock {
         clock.epoch = self.epoch.saturating_add(1);
         clock.last_announced = entry;
         clock
-    }
-
-    /// Whether it may ask for regulation from a time on.
-    pub fn may_enter(self, time: u64) -> bool {
-        matches!(self.regulating, Role::Disabled)
-            && !self.is_advancing()
-            && (time == self.time || (self.time < time && !self.is_constrained()))
     }
 
     /// The next-event request in which it waits, constrained.

@@ -1,8 +1,8 @@
 //! What was sent, and what has become of it at each of its receivers.
 
-use crate::receivers::Attributes;
+use crate::attributes::Attributes;
+use crate::columns::Column;
 use crate::texts::{EventName, KnownTexts, cut, is_last_of_its_name, name_in, number, ticks};
-use std::alloc::{AllocError, Global};
 
 /// What a message says.
 #[derive(Clone, Copy)]
@@ -57,19 +57,18 @@ pub struct StampKey {
 
 /// A message on its way to one receiver.
 #[derive(Clone, Copy)]
-struct Copy {
+pub struct Copy {
     event: EventName,
     receiver: u32,
     stamp: Option<u64>,
     fate: Fate,
 }
 
-/// All messages and their copies.
-#[derive(Drop)]
-pub struct Copies {
-    messages: Vec<BookedMessage>,
-    copies: Vec<Copy>,
-}
+/// All messages.
+pub type Messages = Column<BookedMessage>;
+
+/// What was sent to receivers.
+pub type Copies = Column<Copy>;
 
 impl BookedMessage {
     /// Whether a callback tells of it, in the order in which it is to be given.
@@ -79,6 +78,19 @@ impl BookedMessage {
         callback.contains(" TSO ") == is_ordered
             && self.is_stamped_so(tail)
             && self.is_said_by(texts, head)
+    }
+
+    /// Whether it deletes an object.
+    pub fn is_deletion(self) -> bool {
+        matches!(self.said, Said::Deletion { .. })
+    }
+
+    /// Whether it may be retracted by who may send what is stamped so: it deletes nothing, was not retracted, and is stamped above.
+    pub fn may_be_retracted(self, least: u64) -> bool {
+        match self.stamp {
+            Some(stamp) => least < stamp && !self.is_retracted && !self.is_deletion(),
+            None => false,
+        }
     }
 
     /// Whether a callback ends with its stamp and its name, or with nothing where it has no stamp.
@@ -181,35 +193,10 @@ impl Copy {
     }
 }
 
-impl Copies {
-    /// No messages.
-    pub fn new(alloc: Global) -> Copies {
-        Copies {
-            messages: Vec::new(alloc),
-            copies: Vec::new(alloc),
-        }
-    }
-
-    /// Writes a message down. `AllocError` where a growth was refused.
-    pub fn note(&mut self, message: BookedMessage) -> Result<(), AllocError> {
-        self.messages.push(message)?;
-        Ok(())
-    }
-
-    /// A copy of a message is sent. `AllocError` where a growth was refused.
-    pub fn send(&mut self, message: BookedMessage, receiver: u32) -> Result<(), AllocError> {
-        self.copies.push(Copy {
-            event: message.event,
-            receiver,
-            stamp: message.stamp,
-            fate: Fate::Sent,
-        })?;
-        Ok(())
-    }
-
+impl Column<BookedMessage> {
     /// The message of a name, if there is one.
     pub fn message(&self, event: EventName) -> Option<BookedMessage> {
-        for message in self.messages.as_slice() {
+        for message in self.entries.as_slice() {
             if message.event.is(event) {
                 return Some(*message);
             }
@@ -217,53 +204,12 @@ impl Copies {
         None
     }
 
-    /// What has become of a copy; none where the federate was sent none.
-    pub fn fate(&self, event: EventName, receiver: u32) -> Option<Fate> {
-        for copy in self.copies.as_slice() {
-            if copy.is_of(event, receiver) {
-                return Some(copy.fate);
-            }
-        }
-        None
-    }
-
-    /// What has become of a receiver's copy.
-    pub fn set_fate(&mut self, event: EventName, receiver: u32, fate: Fate) {
-        for copy in self.copies.iter_mut() {
-            if copy.is_of(event, receiver) {
-                copy.fate = fate;
-            }
-        }
-    }
-
     /// A message is retracted.
     pub fn retract(&mut self, event: EventName) {
-        for message in self.messages.iter_mut() {
+        for message in self.entries.iter_mut() {
             if message.event.is(event) {
                 message.is_retracted = true;
             }
-        }
-    }
-
-    /// Whether a message deletes an object.
-    pub fn is_deletion(&self, event: EventName) -> bool {
-        match self.message(event) {
-            Some(message) => matches!(message.said, Said::Deletion { .. }),
-            None => false,
-        }
-    }
-
-    /// Whether a message was not retracted, and is stamped above a time.
-    pub fn is_unretracted_above(&self, event: EventName, time: u64) -> bool {
-        match self.message(event) {
-            Some(
-                BookedMessage {
-                    stamp: Some(stamp),
-                    is_retracted: false,
-                    ..
-                },
-            ) => time < stamp,
-            _ => false,
         }
     }
 
@@ -274,10 +220,41 @@ impl Copies {
             None => false,
         }
     }
+}
+
+impl Column<Copy> {
+    /// A copy of a message is sent.
+    pub fn send(&mut self, message: BookedMessage, receiver: u32) {
+        self.add(Copy {
+            event: message.event,
+            receiver,
+            stamp: message.stamp,
+            fate: Fate::Sent,
+        });
+    }
+
+    /// What has become of a copy; none where the federate was sent none.
+    pub fn fate(&self, event: EventName, receiver: u32) -> Option<Fate> {
+        for copy in self.entries.as_slice() {
+            if copy.is_of(event, receiver) {
+                return Some(copy.fate);
+            }
+        }
+        None
+    }
+
+    /// What has become of a receiver's copy.
+    pub fn set_fate(&mut self, event: EventName, receiver: u32, fate: Fate) {
+        for copy in self.entries.iter_mut() {
+            if copy.is_of(event, receiver) {
+                copy.fate = fate;
+            }
+        }
+    }
 
     /// A federate has resigned: what was not given to it never is.
     pub fn drop_all(&mut self, receiver: u32) {
-        for copy in self.copies.iter_mut() {
+        for copy in self.entries.iter_mut() {
             if copy.receiver == receiver && !matches!(copy.fate, Fate::Given) {
                 copy.fate = Fate::Gone;
             }
@@ -288,7 +265,7 @@ impl Copies {
     /// nothing, a key at the limit.
     pub fn first_below(&self, receiver: u32, limit: u64) -> StampKey {
         let mut first = StampKey::at(limit);
-        for copy in self.copies.as_slice() {
+        for copy in self.entries.as_slice() {
             let is_ordered = copy.receiver == receiver && matches!(copy.fate, Fate::Ordered);
             if is_ordered && copy.key().is_before(first) {
                 first = copy.key();
@@ -300,7 +277,7 @@ impl Copies {
     /// The least stamp of what a federate received of time-stamp order and was not given yet, or a limit.
     pub fn least_received(&self, receiver: u32, limit: u64) -> u64 {
         let mut least = limit;
-        for copy in self.copies.as_slice() {
+        for copy in self.entries.as_slice() {
             if copy.receiver == receiver && matches!(copy.fate, Fate::Received) {
                 least = least.min(copy.stamp.unwrap_or(limit));
             }
@@ -309,9 +286,9 @@ impl Copies {
     }
 
     /// Whether something that was sent to a federate below a time, and not retracted, is still to be given in the order of stamps.
-    pub fn is_left_behind(&self, receiver: u32, time: u64) -> bool {
-        for copy in self.copies.as_slice() {
-            if copy.is_open_below(receiver, time) && !self.is_retracted(copy.event) {
+    pub fn is_left_behind(&self, receiver: u32, time: u64, messages: &Messages) -> bool {
+        for copy in self.entries.as_slice() {
+            if copy.is_open_below(receiver, time) && !messages.is_retracted(copy.event) {
                 return true;
             }
         }

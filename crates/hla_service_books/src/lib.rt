@@ -6,16 +6,19 @@
 //! and grants of time; retractions; and synchronization points. Texts of the script are kept by number.
 #![tactic(auto)]
 
+mod attributes;
 mod clocks;
+mod columns;
 mod copies;
+mod facts;
 mod faults;
 mod members;
 mod object_books;
 mod objects;
 mod point_books;
-mod receivers;
 mod rows;
 mod service_books;
+mod services;
 mod texts;
 mod time_books;
 mod wires;

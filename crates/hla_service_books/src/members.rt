@@ -1,8 +1,8 @@
 //! What the books keep of each federate.
 
+use crate::attributes::Attributes;
 use crate::clocks::Clock;
-use crate::receivers::Attributes;
-use std::alloc::{AllocError, Global};
+use crate::columns::Column;
 
 /// A federate, by its number from 1 on.
 #[derive(Clone, Copy)]
@@ -21,10 +21,7 @@ pub struct BookedFederate {
 }
 
 /// All who have joined, also those that have resigned.
-#[derive(Drop)]
-pub struct BookedFederates {
-    pub list: Vec<BookedFederate>,
-}
+pub type BookedFederates = Column<BookedFederate>;
 
 impl BookedFederate {
     /// A federate that has just joined.
@@ -71,22 +68,10 @@ impl BookedFederate {
     }
 }
 
-impl BookedFederates {
-    /// Nobody has joined.
-    pub fn new(alloc: Global) -> BookedFederates {
-        BookedFederates {
-            list: Vec::new(alloc),
-        }
-    }
-
-    /// The place of a federate that has joined; one that has not stands behind all others.
-    fn place(federate: u32) -> usize {
-        (federate as usize).checked_sub(1).unwrap_or(usize::MAX)
-    }
-
+impl Column<BookedFederate> {
     /// A federate by number, counted from 1; one that has not joined has the number 0, and a new clock.
     pub fn member(&self, federate: u32) -> BookedFederate {
-        match self.list.get(BookedFederates::place(federate)) {
+        match self.at(federate) {
             Some(member) => *member,
             None => BookedFederate {
                 is_joined: false,
@@ -95,27 +80,16 @@ impl BookedFederates {
         }
     }
 
-    /// A federate by number, to be changed, if it has joined.
-    pub fn member_mut(&mut self, federate: u32) -> Option<&mut BookedFederate> {
-        self.list.get_mut(BookedFederates::place(federate))
-    }
-
-    /// One more has joined; answers whether its number is that of its place. `AllocError` where a growth was refused.
-    pub fn add(&mut self, member: BookedFederate) -> Result<bool, AllocError> {
-        self.list.push(member)?;
-        Ok(member.number as usize == self.list.len())
-    }
-
     /// The roles and time of a federate from now on.
     pub fn set_clock(&mut self, federate: u32, clock: Clock) {
-        if let Some(member) = self.member_mut(federate) {
+        if let Some(member) = self.at_mut(federate) {
             member.clock = clock;
         }
     }
 
     /// A federate subscribes attributes of a class, or none of it any more.
     pub fn subscribe(&mut self, federate: u32, is_car: bool, attributes: Option<Attributes>) {
-        if let Some(member) = self.member_mut(federate) {
+        if let Some(member) = self.at_mut(federate) {
             if is_car {
                 member.car = attributes;
             } else {
@@ -126,7 +100,7 @@ impl BookedFederates {
 
     /// A federate resigns.
     pub fn leave(&mut self, federate: u32) {
-        if let Some(member) = self.member_mut(federate) {
+        if let Some(member) = self.at_mut(federate) {
             member.is_joined = false;
             member.clock = Clock::new();
             member.car = None;
@@ -136,7 +110,7 @@ impl BookedFederates {
 
     /// The serial of what a federate sends now, which it takes.
     pub fn take_serial(&mut self, federate: u32) -> u32 {
-        match self.member_mut(federate) {
+        match self.at_mut(federate) {
             Some(member) => {
                 let serial = member.next_serial;
                 member.next_serial = serial.saturating_add(1);
@@ -148,7 +122,7 @@ impl BookedFederates {
 
     /// Notes the stamp of what a federate is given, 0 where it begins anew, and says whether it is not below the one before.
     pub fn note_stamp(&mut self, federate: u32, stamp: u64) -> bool {
-        match self.member_mut(federate) {
+        match self.at_mut(federate) {
             Some(member) => {
                 let is_later = member.last_stamp <= stamp;
                 member.last_stamp = stamp;
@@ -161,7 +135,7 @@ impl BookedFederates {
     /// The first entry from a time on that is below no bar of those that are joined, for one of them that begins to regulate.
     pub fn entry_from(&self, federate: u32, time: u64) -> u64 {
         let mut entry = time;
-        for member in self.list.as_slice() {
+        for member in self.entries.as_slice() {
             if member.is_joined {
                 entry = entry.max(member.clock.entry_bar(member.number == federate));
             }
@@ -172,7 +146,7 @@ impl BookedFederates {
     /// The number of the federate that joined last under a name, by the number of the name's text, or 0.
     pub fn number_of(&self, name: usize) -> u32 {
         let mut found = 0;
-        for member in self.list.as_slice() {
+        for member in self.entries.as_slice() {
             if member.name == name {
                 found = member.number;
             }

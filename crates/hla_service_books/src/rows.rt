@@ -1,11 +1,11 @@
 //! What federates know of one another's times.
 
+use crate::columns::Column;
 use crate::texts::FOREVER;
-use std::alloc::{AllocError, Global};
 
 /// What a federate knows of a peer: its epoch, and a bound that it sends nothing below.
 #[derive(Clone, Copy)]
-struct Row {
+pub struct Row {
     federate: u32,
     peer: u32,
     epoch: u32,
@@ -13,23 +13,13 @@ struct Row {
 }
 
 /// What all federates know.
-#[derive(Drop)]
-pub struct Rows {
-    list: Vec<Row>,
-}
+pub type Rows = Column<Row>;
 
-impl Rows {
-    /// Nobody knows anything.
-    pub fn new(alloc: Global) -> Rows {
-        Rows {
-            list: Vec::new(alloc),
-        }
-    }
-
+impl Column<Row> {
     /// The least of what a federate knows of its peers; with none it is `FOREVER`.
     pub fn bound(&self, federate: u32) -> u64 {
         let mut least = FOREVER;
-        for row in self.list.as_slice() {
+        for row in self.entries.as_slice() {
             if row.federate == federate {
                 least = least.min(row.bound);
             }
@@ -37,31 +27,22 @@ impl Rows {
         least
     }
 
-    /// A federate learns at once that a peer begins an epoch, and from where on that peer may send. `AllocError` where a growth
-    /// was refused.
-    pub fn hear_entry(
-        &mut self,
-        federate: u32,
-        peer: u32,
-        epoch: u32,
-        entry: u64,
-    ) -> Result<(), AllocError> {
-        if self.change(federate, peer, epoch, entry) {
-            return Ok(());
+    /// A federate learns at once that a peer begins an epoch, and from where on that peer may send.
+    pub fn hear_entry(&mut self, federate: u32, peer: u32, epoch: u32, entry: u64) {
+        if !self.change(federate, peer, epoch, entry) {
+            self.add(Row {
+                federate,
+                peer,
+                epoch,
+                bound: entry,
+            });
         }
-        self.list.push(Row {
-            federate,
-            peer,
-            epoch,
-            bound: entry,
-        })?;
-        Ok(())
     }
 
     /// A peer that is known begins an epoch; answers whether it is known.
     fn change(&mut self, federate: u32, peer: u32, epoch: u32, entry: u64) -> bool {
         let mut is_known = false;
-        for row in self.list.iter_mut() {
+        for row in self.entries.iter_mut() {
             if row.federate == federate && row.peer == peer {
                 row.epoch = epoch;
                 row.bound = row.bound.min(entry);
@@ -74,7 +55,7 @@ impl Rows {
     /// A null message comes, and says whether it was of the epoch that is known.
     pub fn hear_null(&mut self, federate: u32, peer: u32, epoch: u32, bound: u64) -> bool {
         let mut is_known = false;
-        for row in self.list.iter_mut() {
+        for row in self.entries.iter_mut() {
             if row.federate == federate && row.peer == peer && row.epoch == epoch {
                 row.bound = row.bound.max(bound);
                 is_known = true;

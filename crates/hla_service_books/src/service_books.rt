@@ -2,16 +2,20 @@
 //! each federate's time has come. They know no crate of the federation, and say of each answer of a transcript whether the rules
 //! allow it.
 
-use crate::copies::{BookedMessage, Copies, Said};
+use crate::attributes::Attributes;
+use crate::columns::Column;
+use crate::copies::{BookedMessage, Copies, Messages, Said};
+use crate::facts::Facts;
 use crate::faults;
 use crate::members::{BookedFederate, BookedFederates};
-use crate::objects::Objects;
+use crate::objects::{Objects, is_car};
 use crate::point_books::Points;
-use crate::receivers::{Attributes, Interactions};
 use crate::rows::Rows;
+use crate::services::BookedService;
 use crate::texts::{EventName, FOREVER, KnownTexts, cut, number, path_of, stamp_of};
 use crate::wires::{Letter, Wires};
 use std::alloc::{AllocError, Global};
+use std::mem;
 
 /// How often the laws were tried.
 #[derive(Clone, Copy)]
@@ -74,13 +78,22 @@ impl Tally {
 /// What was noted so far.
 #[derive(Drop)]
 pub struct Books {
-    alloc: Global,
+    pub alloc: Global,
     pub texts: KnownTexts,
     pub members: BookedFederates,
     pub rows: Rows,
-    pub interactions: Interactions,
+    /// Who subscribes which interaction class, and whose interactions of which class go in time-stamp order, where that was changed;
+    /// by the numbers of the classes' paths.
+    hearings: Facts,
+    interaction_orders: Facts,
     pub objects: Objects,
+    /// Who knows which object.
+    pub known: Facts,
     pub points: Points,
+    /// Who was told of which point, and has achieved it, by the point's place.
+    pub told: Facts,
+    pub achieved: Facts,
+    pub messages: Messages,
     pub copies: Copies,
     /// Between all federates.
     pub wires: Wires,
@@ -102,41 +115,45 @@ fn may_refuse_outside(word: &str, fault: u32) -> bool {
 }
 
 /// Whether a service may be refused with a fault, of those that the books do not judge further.
-fn may_refuse_unjudged(verb: &str, words: &str, fault: u32) -> bool {
-    match verb {
-        "unpublishObject" => fault == faults::OBJECT_CLASS_NOT_PUBLISHED,
-        "unsubscribeObject" => fault == faults::OBJECT_CLASS_NOT_SUBSCRIBED,
-        "unpublishInteraction" => fault == faults::INTERACTION_NOT_PUBLISHED,
-        "unsubscribeInteraction" => fault == faults::INTERACTION_NOT_SUBSCRIBED,
-        "register" => matches!(
+fn may_refuse_unjudged(service: BookedService, words: &str, fault: u32) -> bool {
+    match service {
+        BookedService::UnpublishObject => fault == faults::OBJECT_CLASS_NOT_PUBLISHED,
+        BookedService::UnsubscribeObject => fault == faults::OBJECT_CLASS_NOT_SUBSCRIBED,
+        BookedService::UnpublishInteraction | BookedService::ChangeInteractionOrder => {
+            fault == faults::INTERACTION_NOT_PUBLISHED
+        }
+        BookedService::UnsubscribeInteraction => fault == faults::INTERACTION_NOT_SUBSCRIBED,
+        BookedService::Register => matches!(
             fault,
             faults::OBJECT_CLASS_NOT_PUBLISHED | faults::OBJECT_NAME_IS_USED
         ),
-        "objectHandle" | "objectName" => fault == faults::OBJECT_NOT_KNOWN,
-        "resign" if words.ends_with("RELEASE_ATTRIBUTES") => fault == faults::BAD_RESIGN_ACTION,
-        "resign" => fault == faults::OWNS_OBJECTS,
+        BookedService::NameObject => fault == faults::OBJECT_NOT_KNOWN,
+        BookedService::Resign => {
+            if words.ends_with("RELEASE_ATTRIBUTES") {
+                fault == faults::BAD_RESIGN_ACTION
+            } else {
+                fault == faults::OWNS_OBJECTS
+            }
+        }
         _ => false,
     }
 }
 
-/// Whether a service names a class, and perhaps attributes or parameters, which the FED file may not have.
-fn names_a_class(verb: &str) -> bool {
-    matches!(
-        verb,
-        "publishObject"
-            | "unpublishObject"
-            | "subscribeObject"
-            | "unsubscribeObject"
-            | "publishInteraction"
-            | "unpublishInteraction"
-            | "subscribeInteraction"
-            | "unsubscribeInteraction"
-            | "register"
-            | "update"
-            | "send"
-            | "attributeOrder"
-            | "interactionOrder"
-    )
+/// Whether a message may be refused with a fault, other than for its stamp.
+fn may_refuse_message(service: BookedService, fault: u32) -> bool {
+    match service {
+        BookedService::Send => fault == faults::INTERACTION_NOT_PUBLISHED,
+        BookedService::Delete => {
+            matches!(fault, faults::OBJECT_NOT_KNOWN | faults::NOT_DELETABLE)
+        }
+        _ => matches!(
+            fault,
+            faults::OBJECT_NOT_KNOWN
+                | faults::ATTRIBUTE_NOT_DEFINED
+                | faults::ATTRIBUTE_NOT_PUBLISHED
+                | faults::ATTRIBUTE_NOT_OWNED
+        ),
+    }
 }
 
 impl Books {
@@ -144,18 +161,49 @@ impl Books {
     fn new(alloc: Global, tally: Tally) -> Books {
         Books {
             alloc,
-            texts: KnownTexts::new(alloc),
-            members: BookedFederates::new(alloc),
-            rows: Rows::new(alloc),
-            interactions: Interactions::new(alloc),
-            objects: Objects::new(alloc),
-            points: Points::new(alloc),
-            copies: Copies::new(alloc),
-            wires: Wires::new(alloc),
-            controls: Wires::new(alloc),
-            received: Wires::new(alloc),
+            texts: Column::new(alloc),
+            members: Column::new(alloc),
+            rows: Column::new(alloc),
+            hearings: Column::new(alloc),
+            interaction_orders: Column::new(alloc),
+            objects: Column::new(alloc),
+            known: Column::new(alloc),
+            points: Column::new(alloc),
+            told: Column::new(alloc),
+            achieved: Column::new(alloc),
+            messages: Column::new(alloc),
+            copies: Column::new(alloc),
+            wires: Column::new(alloc),
+            controls: Column::new(alloc),
+            received: Column::new(alloc),
             tally,
         }
+    }
+
+    /// A federation is created or destroyed: all that stays is how often the laws were tried.
+    fn start_over(&mut self) {
+        let mut books = Books::new(self.alloc, self.tally);
+        mem::swap(self, &mut books);
+        drop(books);
+    }
+
+    /// Whether there was no room for something.
+    fn lacked_room(&self) -> bool {
+        self.texts.lacked_room
+            | self.members.lacked_room
+            | self.rows.lacked_room
+            | self.hearings.lacked_room
+            | self.interaction_orders.lacked_room
+            | self.objects.lacked_room
+            | self.known.lacked_room
+            | self.points.lacked_room
+            | self.told.lacked_room
+            | self.achieved.lacked_room
+            | self.messages.lacked_room
+            | self.copies.lacked_room
+            | self.wires.lacked_room
+            | self.controls.lacked_room
+            | self.received.lacked_room
     }
 
     /// The least stamp that waits for a federate in time-stamp order.
@@ -164,95 +212,112 @@ impl Books {
     }
 
     /// The number of the federate that joined last under a name, or 0.
-    fn number_of(&self, name: &str) -> u32 {
-        match self.texts.find(name) {
-            Some(name) => self.members.number_of(name),
-            None => 0,
+    pub fn number_of(&self, name: &str) -> u32 {
+        self.members.number_of(self.texts.number_of(name))
+    }
+
+    /// Notes a line of the script and its answer, and says whether the answer is one that the books allow.
+    fn note(&mut self, line: &str, answer: &str) -> bool {
+        let (ok, said) = cut(answer);
+        let (name, rest) = cut(line);
+        if ok == "ok" {
+            self.note_success(name, rest, said)
+        } else {
+            ok == "error" && self.may_refuse(name, rest, number(cut(said).0))
         }
     }
 
-    /// Notes a line of the script and its answer, and says whether the answer is one that the books allow. `AllocError` where
-    /// a growth was refused; then the books are left halfway.
-    fn note(&mut self, line: &str, answer: &str) -> Result<bool, AllocError> {
-        let (ok, said) = cut(answer);
-        let (word, rest) = cut(line);
-        if ok != "ok" {
-            let fault = number(cut(said).0);
-            return Ok(ok == "error" && self.may_refuse(word, rest, fault));
-        }
-        match word {
+    /// Notes what a line has done.
+    fn note_success(&mut self, name: &str, rest: &str, said: &str) -> bool {
+        match name {
             "create" | "destroy" => {
-                *self = Books::new(self.alloc, self.tally);
-                Ok(said.is_empty())
+                self.start_over();
+                said.is_empty()
             }
             "join" => self.join(rest, number(said)),
-            "carry" => {
-                let (from, to) = cut(rest);
-                self.carry(self.number_of(from), self.number_of(to), said)
+            "carry" => self.carry(rest, said),
+            "announce" => {
+                let federate = self.number_of(rest);
+                self.is_joined(federate) && self.announce(federate, said)
             }
-            "announce" => self.announce(self.number_of(rest), said),
-            name => self.call(self.number_of(name), rest, said),
+            _ => {
+                let federate = self.number_of(name);
+                self.is_joined(federate) && self.call(federate, rest, said)
+            }
         }
     }
 
-    /// Notes the lines of a script and their answers in a transcript, and says whether that is by the books.
-    fn read(&mut self, script: &str, transcript: &str) -> Result<bool, AllocError> {
+    /// Whether a federate has joined, and not resigned since.
+    pub fn is_joined(&self, federate: u32) -> bool {
+        self.members.member(federate).is_joined
+    }
+
+    /// Notes the lines of a script and their answers in a transcript, and says whether that is by the books; not where there was no
+    /// room for something.
+    fn read(&mut self, script: &str, transcript: &str) -> bool {
         let mut answers = transcript.lines();
         let mut number = 0u64;
         for line in script.lines() {
             number = number.saturating_add(1);
-            let Some(said) = said_in(answers.next(), number) else {
-                return Ok(false);
+            let is_allowed = match said_in(answers.next(), number) {
+                Some(said) => self.note(line, said),
+                None => false,
             };
-            if !self.note(line, said)? {
-                return Ok(false);
+            if !is_allowed || self.lacked_room() {
+                return false;
             }
         }
-        Ok(answers.next().is_none())
+        answers.next().is_none()
     }
 
     /// Whether a line may be refused with a fault: by what the books know of the federate and its clock, or where they do not tell,
     /// with one of the faults that its service has.
     fn may_refuse(&mut self, name: &str, rest: &str, fault: u32) -> bool {
+        let (word, words) = cut(rest);
+        let service = BookedService::of(word);
         let federate = self.number_of(name);
-        let (verb, words) = cut(rest);
         if fault == faults::NAME_NOT_FOUND {
-            return names_a_class(verb);
-        }
-        if !self.members.member(federate).is_joined {
-            return may_refuse_outside(name, fault);
-        }
-        match verb {
-            "send" | "update" | "delete" => self.may_refuse_sending(federate, verb, words, fault),
-            "attributeOrder" => self.may_refuse_attributes(federate, words, fault),
-            "interactionOrder" => fault == faults::INTERACTION_NOT_PUBLISHED,
-            "retract" => {
-                fault == faults::BAD_RETRACTION && !self.may_retract(federate, EventName::of(words))
-            }
-            "syncRegister" => {
-                fault == faults::LIMIT_REACHED && !self.points.may_open(&self.texts, cut(words).0)
-            }
-            "syncAchieve" => self.may_refuse_achievement(federate, cut(words).0, fault),
-            _ => {
-                let clock = self.members.member(federate).clock;
-                may_refuse_unjudged(verb, words, fault) || clock.refusal(verb, words) == Some(fault)
-            }
+            service.names_a_class()
+        } else if self.is_joined(federate) {
+            self.may_refuse_member(federate, service, words, fault)
+        } else {
+            may_refuse_outside(name, fault)
         }
     }
 
-    /// Whether a message may be refused with a fault: for its stamp only where it is below the least that may be sent.
-    fn may_refuse_sending(&mut self, federate: u32, verb: &str, words: &str, fault: u32) -> bool {
-        match (verb, fault) {
-            (_, faults::BAD_TIME) => self.may_refuse_stamp(federate, words),
-            ("send", _) => fault == faults::INTERACTION_NOT_PUBLISHED,
-            (_, faults::OBJECT_NOT_KNOWN) => true,
-            ("delete", _) => fault == faults::NOT_DELETABLE,
-            _ => matches!(
-                fault,
-                faults::ATTRIBUTE_NOT_DEFINED
-                    | faults::ATTRIBUTE_NOT_PUBLISHED
-                    | faults::ATTRIBUTE_NOT_OWNED
-            ),
+    /// The same, of a line of a federate that is joined, with another fault than that a name is not found.
+    fn may_refuse_member(
+        &mut self,
+        federate: u32,
+        service: BookedService,
+        words: &str,
+        fault: u32,
+    ) -> bool {
+        match service {
+            BookedService::Send | BookedService::Update | BookedService::Delete => {
+                if fault == faults::BAD_TIME {
+                    self.may_refuse_stamp(federate, words)
+                } else {
+                    may_refuse_message(service, fault)
+                }
+            }
+            BookedService::ChangeAttributeOrder => {
+                self.may_refuse_attributes(federate, words, fault)
+            }
+            BookedService::Retract => {
+                fault == faults::BAD_RETRACTION && !self.may_retract(federate, EventName::of(words))
+            }
+            BookedService::RegisterPoint => {
+                fault == faults::LIMIT_REACHED && !self.may_open(cut(words).0)
+            }
+            BookedService::AchievePoint => {
+                self.may_refuse_achievement(federate, cut(words).0, fault)
+            }
+            _ => {
+                let clock = self.members.member(federate).clock;
+                may_refuse_unjudged(service, words, fault)
+                    || clock.refusal(service, words) == Some(fault)
+            }
         }
     }
 
@@ -267,83 +332,90 @@ impl Books {
     }
 
     /// What a federate's service does.
-    fn call(&mut self, federate: u32, rest: &str, answer: &str) -> Result<bool, AllocError> {
-        let (verb, words) = cut(rest);
-        match verb {
-            "tick" => self.tick(federate, answer),
-            "send" => self.send(federate, words, answer),
-            "update" => self.update(federate, words, answer),
-            "register" => self.register(federate, cut(words).0, number(cut(answer).0)),
-            "retract" => self.retract(federate, EventName::of(words)),
-            "resign" => self.resign(federate, words),
-            "delete" | "attributeOrder" | "interactionOrder" | "syncRegister" | "syncAchieve" => {
-                Ok(self.call_silently(federate, verb, words)? && answer.is_empty())
+    fn call(&mut self, federate: u32, rest: &str, answer: &str) -> bool {
+        let (word, words) = cut(rest);
+        let first = cut(words).0;
+        match BookedService::of(word) {
+            BookedService::Tick => self.tick(federate, answer),
+            BookedService::Send => self.send(federate, words, answer),
+            BookedService::Update => self.update(federate, words, answer),
+            BookedService::Register => self.register(federate, first, number(cut(answer).0)),
+            BookedService::Retract => {
+                self.retract(federate, EventName::of(words)) && answer.is_empty()
             }
-            "subscribeObject" | "unsubscribeObject" => self.declare_object(federate, verb, words),
-            "subscribeInteraction" | "unsubscribeInteraction" => {
-                self.speak_of_class(federate, verb, words)
-            }
-            _ => self.manage_time(federate, verb, words, answer),
+            BookedService::Resign => self.resign(federate, words) && answer.is_empty(),
+            service => self.call_further(federate, service, words, answer),
         }
     }
 
-    /// What a service does whose answer says nothing.
-    fn call_silently(
+    /// What the other services do, most of which answer nothing.
+    fn call_further(
         &mut self,
         federate: u32,
-        verb: &str,
+        service: BookedService,
         words: &str,
-    ) -> Result<bool, AllocError> {
+        answer: &str,
+    ) -> bool {
         let first = cut(words).0;
-        match verb {
-            "delete" => {
-                let place = self.texts.keep(words)?;
+        let is_allowed = match service {
+            BookedService::SubscribeObject => {
+                self.subscribe_object(federate, words);
+                true
+            }
+            BookedService::UnsubscribeObject => {
+                self.members.subscribe(federate, is_car(first), None);
+                true
+            }
+            BookedService::SubscribeInteraction => {
+                self.subscribe_interaction(federate, first, true);
+                true
+            }
+            BookedService::UnsubscribeInteraction => {
+                self.subscribe_interaction(federate, first, false);
+                true
+            }
+            BookedService::Delete => {
+                let place = self.texts.keep(self.alloc, words);
                 self.delete(federate, number(first), place, stamp_of(words))
             }
-            "attributeOrder" => Ok(self.change_attributes(federate, words)),
-            "interactionOrder" => self.speak_of_class(federate, verb, words),
-            "syncRegister" => self.register_point(federate, first),
-            _ => self.achieve_point(federate, first),
-        }
+            BookedService::ChangeAttributeOrder => self.change_attributes(federate, words),
+            BookedService::ChangeInteractionOrder => {
+                self.change_interactions(federate, words);
+                true
+            }
+            BookedService::RegisterPoint => self.register_point(federate, first),
+            BookedService::AchievePoint => self.achieve_point(federate, first),
+            _ => return self.manage_time(federate, service, words, answer),
+        };
+        is_allowed && answer.is_empty()
     }
 
-    /// A federate subscribes an interaction class, or unsubscribes it, or its interactions of the class go in another order.
-    fn speak_of_class(
-        &mut self,
-        federate: u32,
-        verb: &str,
-        words: &str,
-    ) -> Result<bool, AllocError> {
+    /// A federate subscribes an interaction class, or unsubscribes it.
+    fn subscribe_interaction(&mut self, federate: u32, class: &str, is_subscribed: bool) {
+        let class = self.texts.keep(self.alloc, path_of(class));
+        self.hearings.note(federate, class, is_subscribed);
+    }
+
+    /// A federate's interactions of a class go in another order.
+    fn change_interactions(&mut self, federate: u32, words: &str) {
         let (class, order) = cut(words);
-        let class = self.texts.keep(path_of(class))?;
-        match verb {
-            "subscribeInteraction" => self.interactions.subscribe(federate, class)?,
-            "unsubscribeInteraction" => self.interactions.unsubscribe(federate, class),
-            _ => {
-                self.tally.changed = self.tally.changed.saturating_add(1);
-                self.interactions
-                    .change_order(federate, class, order == "timestamp")?;
-            }
-        }
-        Ok(true)
+        let class = self.texts.keep(self.alloc, path_of(class));
+        self.tally.changed = self.tally.changed.saturating_add(1);
+        self.interaction_orders
+            .note(federate, class, order == "timestamp");
     }
 
     /// A federate that joins knows at once what each other one announced last, and is to be told of each open point.
-    fn join(&mut self, name: &str, federate: u32) -> Result<bool, AllocError> {
-        let newcomer = BookedFederate::new(federate, self.texts.keep(name)?);
-        self.introduce(federate)?;
-        let is_next = self.members.add(newcomer)?;
-        self.announce_points(federate)?;
-        Ok(is_next)
-    }
-
-    fn introduce(&mut self, newcomer: u32) -> Result<(), AllocError> {
-        for member in self.members.list.as_slice() {
+    fn join(&mut self, name: &str, federate: u32) -> bool {
+        let name = self.texts.keep(self.alloc, name);
+        for member in self.members.entries.as_slice() {
             let clock = member.clock;
             self.rows
-                .hear_entry(newcomer, member.number, clock.epoch, clock.last_announced)?;
+                .hear_entry(federate, member.number, clock.epoch, clock.last_announced);
         }
-        Ok(())
+        self.members.add(BookedFederate::new(federate, name));
+        self.announce_points(federate);
+        federate as usize == self.members.entries.len()
     }
 
     // ---- what is sent
@@ -351,29 +423,30 @@ impl Books {
     /// Whether a federate is sent a copy.
     fn receives(&self, member: BookedFederate, said: Said) -> bool {
         match said {
-            Said::Interaction { class } => {
-                self.interactions
-                    .are_heard(&self.texts, member.number, class)
-            }
+            Said::Interaction { class } => self.hears(member.number, class),
             Said::Update {
                 object,
                 part,
                 given,
             } => member.is_shown(self.objects.object(object).is_car, part.among(given)),
-            Said::Deletion { object } => self.objects.is_known(object, member.number),
+            Said::Deletion { object } => self.known.hold(member.number, object as usize, false),
         }
     }
 
+    /// Whether a federate receives the interactions of a class: it subscribes that class or one above it.
+    fn hears(&self, federate: u32, class: usize) -> bool {
+        let path = self.texts.text(class);
+        let mut hears = false;
+        for hearing in self.hearings.entries.as_slice() {
+            let is_above = path.starts_with(self.texts.text(hearing.number));
+            hears = hears || is_above && self.hearings.hold(federate, hearing.number, false);
+        }
+        hears
+    }
+
     /// A message takes the next serial, and goes to each of its receivers; with a stamp it is not below what the sender may send
-    /// or has announced, and in the past of none of them. `AllocError` where a growth was refused; then the books are left
-    /// halfway.
-    pub fn post(
-        &mut self,
-        sender: u32,
-        said: Said,
-        stamp: Option<u64>,
-        words: usize,
-    ) -> Result<bool, AllocError> {
+    /// or has announced, and in the past of none of them.
+    pub fn post(&mut self, sender: u32, said: Said, stamp: Option<u64>, words: usize) -> bool {
         let clock = self.members.member(sender).clock;
         let is_allowed = match stamp {
             Some(stamp) => clock.least_stamp() <= stamp && clock.last_announced <= stamp,
@@ -387,35 +460,24 @@ impl Books {
             words,
             is_retracted: false,
         };
-        self.copies.note(message)?;
-        Ok(self.hand_out(message)? && is_allowed)
+        self.messages.add(message);
+        self.hand_out(message) && is_allowed
     }
 
     /// A message goes to each of its receivers; whether it is in the past of none of them.
-    fn hand_out(&mut self, message: BookedMessage) -> Result<bool, AllocError> {
+    fn hand_out(&mut self, message: BookedMessage) -> bool {
+        let event = message.event;
         let mut is_allowed = true;
-        for place in 0..self.members.list.len() {
-            if let Some(member) = self.members.list.get(place).copied() {
-                is_allowed = self.hand_to(member, message)? && is_allowed;
+        for number in 1..=self.members.count() {
+            let member = self.members.member(number);
+            if member.is_other(event.sender) && self.receives(member, message.said) {
+                self.copies.send(message, member.number);
+                self.wires
+                    .put(event.sender, member.number, Letter::Message { event });
+                is_allowed = is_allowed && !member.is_past(message.stamp);
             }
         }
-        Ok(is_allowed)
-    }
-
-    /// A message goes to a federate, if that receives it; whether it is not in its past.
-    fn hand_to(
-        &mut self,
-        member: BookedFederate,
-        message: BookedMessage,
-    ) -> Result<bool, AllocError> {
-        let event = message.event;
-        if !member.is_other(event.sender) || !self.receives(member, message.said) {
-            return Ok(true);
-        }
-        self.copies.send(message, member.number)?;
-        self.wires
-            .put(event.sender, member.number, Letter::Message { event })?;
-        Ok(!member.is_past(message.stamp))
+        is_allowed
     }
 
     /// The stamp with which a message goes in time-stamp order, if it does.
@@ -438,30 +500,28 @@ impl Books {
 
     /// An interaction, in the order in which its sender's interactions of the class go now: by the FED file only those of `Hit` go
     /// in time-stamp order.
-    fn send(&mut self, sender: u32, words: &str, answer: &str) -> Result<bool, AllocError> {
+    fn send(&mut self, sender: u32, words: &str, answer: &str) -> bool {
         let path = path_of(cut(words).0);
-        let class = self.texts.keep(path)?;
-        let place = self.texts.keep(words)?;
-        let is_stamped = self
-            .interactions
-            .are_stamped(sender, class, path == path_of("Hit"));
+        let class = self.texts.keep(self.alloc, path);
+        let place = self.texts.keep(self.alloc, words);
+        let by_file = path == path_of("Hit");
+        let is_stamped = self.interaction_orders.hold(sender, class, by_file);
         let stamp = self.kept_stamp(sender, stamp_of(words), is_stamped);
         let is_named = self.names_next(sender, stamp, answer);
-        let said = Said::Interaction { class };
-        Ok(self.post(sender, said, stamp, place)? && is_named)
+        self.post(sender, Said::Interaction { class }, stamp, place) && is_named
     }
 
     /// An update, cut by the orders of the object's attributes now, the part in receive order first.
-    fn update(&mut self, sender: u32, words: &str, answer: &str) -> Result<bool, AllocError> {
+    fn update(&mut self, sender: u32, words: &str, answer: &str) -> bool {
         let object = number(cut(words).0);
         let given = Attributes::named_in(words, true);
         let stamped = self.objects.object(object).stamped;
-        let place = self.texts.keep(words)?;
-        let is_allowed = self.post_part(sender, object, stamped.others(), given, None, place)?;
+        let place = self.texts.keep(self.alloc, words);
+        let is_allowed = self.post_part(sender, object, stamped.others(), given, None, place);
         let stamp = self.kept_stamp(sender, stamp_of(words), stamped.among(given).are_any());
         let is_named = self.names_next(sender, stamp, answer);
-        let is_sent = self.post_part(sender, object, stamped, given, stamp, place)?;
-        Ok(is_allowed && is_named && is_sent)
+        let is_sent = self.post_part(sender, object, stamped, given, stamp, place);
+        is_allowed && is_named && is_sent
     }
 
     /// A part of an update is sent, where values of it are given.
@@ -473,16 +533,13 @@ impl Books {
         given: Attributes,
         stamp: Option<u64>,
         words: usize,
-    ) -> Result<bool, AllocError> {
-        if !part.among(given).are_any() {
-            return Ok(true);
-        }
+    ) -> bool {
         let said = Said::Update {
             object,
             part,
             given,
         };
-        self.post(sender, said, stamp, words)
+        !part.among(given).are_any() || self.post(sender, said, stamp, words)
     }
 }
 
@@ -502,9 +559,13 @@ pub fn read_services(
     transcript: &str,
 ) -> Result<Option<Tally>, AllocError> {
     let mut books = Books::new(alloc, Tally::new());
-    if books.read(script, transcript)? {
-        Ok(Some(books.tally))
+    let is_taken = books.read(script, transcript);
+    let lacked_room = books.lacked_room();
+    let tally = books.tally;
+    drop(books);
+    if lacked_room {
+        Err(AllocError)
     } else {
-        Ok(None)
+        Ok(is_taken.then_some(tally))
     }
 }

@@ -1,6 +1,7 @@
 //! The words of scripts and transcripts, and the script's texts by number.
 
-use std::alloc::{AllocError, Global};
+use crate::columns::Column;
+use std::alloc::Global;
 
 /// Above every time: what `forever` says.
 pub const FOREVER: u64 = u64::MAX;
@@ -94,47 +95,38 @@ pub fn path_of(class: &str) -> &str {
     }
 }
 
-/// KnownTexts of the script by number: those that were found equal have one number.
-#[derive(Drop)]
-pub struct KnownTexts {
-    alloc: Global,
-    list: Vec<String>,
-}
+/// Texts of the script by number: those that were found equal have one number.
+pub type KnownTexts = Column<String>;
 
-impl KnownTexts {
-    /// No texts.
-    pub fn new(alloc: Global) -> KnownTexts {
-        KnownTexts {
-            alloc,
-            list: Vec::new(alloc),
-        }
-    }
-
+impl Column<String> {
     /// A text by number.
     pub fn text(&self, number: usize) -> &str {
-        match self.list.get(number) {
+        match self.entries.get(number) {
             Some(text) => text.as_str(),
             None => "",
         }
     }
 
-    /// The number of a text, if it has one.
-    pub fn find(&self, text: &str) -> Option<usize> {
-        for (number, known) in self.list.iter().enumerate() {
+    /// The number of a text; one that is not known has that of the next to be kept, which nothing else has yet.
+    pub fn number_of(&self, text: &str) -> usize {
+        let mut found = self.entries.len();
+        for (number, known) in self.entries.iter().enumerate() {
             if known.as_str() == text {
-                return Some(number);
+                found = number;
             }
         }
-        None
+        found
     }
 
-    /// Gives a text a number, which is its old one where it has one. `AllocError` where a growth was refused.
-    pub fn keep(&mut self, text: &str) -> Result<usize, AllocError> {
-        if let Some(number) = self.find(text) {
-            return Ok(number);
+    /// Gives a text a number, which is its old one where it has one.
+    pub fn keep(&mut self, alloc: Global, text: &str) -> usize {
+        let number = self.number_of(text);
+        if number == self.entries.len() {
+            match String::from_str(alloc, text) {
+                Ok(text) => self.add(text),
+                Err(_) => self.lacked_room = true,
+            }
         }
-        let number = self.list.len();
-        self.list.push(String::from_str(self.alloc, text)?)?;
-        Ok(number)
+        number
     }
 }

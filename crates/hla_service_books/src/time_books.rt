@@ -1,11 +1,11 @@
 //! What the books of all services make of time management: roles, requests, announcements, retractions, queries and ticks.
 
-use crate::clocks::{Clock, Kind, Role};
+use crate::clocks::{Clock, Role};
 use crate::copies::Fate;
 use crate::service_books::Books;
+use crate::services::BookedService;
 use crate::texts::{EventName, FOREVER, cut, number, ticks};
 use crate::wires::Letter;
-use std::alloc::AllocError;
 
 /// What a federate must be told at a tick.
 #[derive(Clone, Copy)]
@@ -20,68 +20,45 @@ enum Due {
 }
 
 impl Books {
-    /// What a service of time management does. `AllocError` where a growth was refused; then the books are left halfway.
+    /// What a service of time management does, or another that the books judge no further. It is done where no fault refuses it, and
+    /// answers what was asked, or nothing.
     pub fn manage_time(
         &mut self,
         federate: u32,
-        verb: &str,
+        service: BookedService,
         words: &str,
         answer: &str,
-    ) -> Result<bool, AllocError> {
-        match verb {
-            "regulate" => self.regulate(federate, words),
-            "unregulate" => self.unregulate(federate),
-            "unconstrain" => self.unconstrain(federate),
-            "lbts" | "time" | "lookahead" | "minNext" => {
-                Ok(ticks(answer) == self.queried(federate, verb))
-            }
-            _ => Ok(self.change_clock(federate, verb, ticks(words))),
-        }
-    }
-
-    /// What a query answers.
-    fn queried(&self, federate: u32, verb: &str) -> u64 {
-        match verb {
-            "lbts" => self.rows.bound(federate),
-            "time" => self.members.member(federate).clock.time,
-            "lookahead" => self.members.member(federate).clock.lookahead,
-            _ => self.next_time(federate),
-        }
-    }
-
-    /// What a service does that changes a federate's clock alone, with the time that it names; whether it may be asked for.
-    fn change_clock(&mut self, federate: u32, verb: &str, time: u64) -> bool {
-        let mut clock = self.members.member(federate).clock;
-        let is_idle = !clock.is_advancing();
-        let is_allowed = match verb {
-            "constrain" => {
-                let was_disabled = matches!(clock.constrained, Role::Disabled);
-                clock.constrained = Role::Pending;
-                was_disabled && is_idle
-            }
-            "modifyLookahead" => {
-                clock.lookahead = time;
-                clock.is_regulating() && is_idle
-            }
-            "asyncOn" | "asyncOff" => {
-                let was_on = clock.is_asynchronous;
-                clock.is_asynchronous = verb == "asyncOn";
-                was_on != clock.is_asynchronous
-            }
-            _ => return self.ask(federate, verb, time),
-        };
-        self.members.set_clock(federate, clock);
-        is_allowed
-    }
-
-    /// A request to advance; what is none is allowed, and changes nothing.
-    fn ask(&mut self, federate: u32, verb: &str, time: u64) -> bool {
-        let Some(kind) = Kind::of(verb) else {
-            return true;
-        };
+    ) -> bool {
         let clock = self.members.member(federate).clock;
-        self.members.set_clock(federate, clock.asking(kind, time));
-        clock.may_ask(time)
+        let is_answered = match service {
+            BookedService::TellBound => ticks(answer) == self.rows.bound(federate),
+            BookedService::TellTime => ticks(answer) == clock.time,
+            BookedService::TellLookahead => ticks(answer) == clock.lookahead,
+            BookedService::TellNextTime => ticks(answer) == self.next_time(federate),
+            BookedService::NameObject | BookedService::Other => true,
+            _ => answer.is_empty(),
+        };
+        match service {
+            BookedService::Regulate => self.regulate(federate, words),
+            BookedService::Unregulate => self.unregulate(federate),
+            BookedService::Unconstrain => self.unconstrain(federate),
+            _ => self.change_clock(federate, service, ticks(words)),
+        }
+        is_answered && clock.refusal(service, words).is_none()
+    }
+
+    /// What a service does that changes a federate's clock alone, with the time that it names. What is none of these changes nothing.
+    fn change_clock(&mut self, federate: u32, service: BookedService, time: u64) {
+        let mut clock = self.members.member(federate).clock;
+        match service {
+            BookedService::Constrain => clock.constrained = Role::Pending,
+            BookedService::ModifyLookahead => clock.lookahead = time,
+            BookedService::TurnAsyncOn => clock.is_asynchronous = true,
+            BookedService::TurnAsyncOff => clock.is_asynchronous = false,
+            BookedService::Request(kind) => clock = clock.asking(kind, time),
+            _ => {}
+        }
+        self.members.set_clock(federate, clock);
     }
 
     /// Query Minimum Next Event Time.
@@ -95,7 +72,7 @@ impl Books {
     }
 
     /// Regulation begins with an entry that is below no bar, and all others learn of it at once.
-    fn regulate(&mut self, federate: u32, words: &str) -> Result<bool, AllocError> {
+    fn regulate(&mut self, federate: u32, words: &str) {
         let (time, lookahead) = cut(words);
         let lookahead = ticks(lookahead);
         let clock = self.members.member(federate).clock;
@@ -103,86 +80,76 @@ impl Books {
         let entry = self.members.entry_from(federate, first);
         let entered = clock.entering(lookahead, entry);
         self.members.set_clock(federate, entered);
-        self.put_null(federate, entry)?;
-        self.begin_epoch(federate, entered.epoch, entry)?;
-        Ok(clock.may_enter(ticks(time)))
+        self.put_null(federate, entry);
+        self.begin_epoch(federate, entered.epoch, entry);
     }
 
-    fn begin_epoch(&mut self, federate: u32, epoch: u32, entry: u64) -> Result<(), AllocError> {
-        for member in self.members.list.as_slice() {
+    fn begin_epoch(&mut self, federate: u32, epoch: u32, entry: u64) {
+        for member in self.members.entries.as_slice() {
             if member.is_other(federate) {
-                self.rows.hear_entry(member.number, federate, epoch, entry)?;
+                self.rows.hear_entry(member.number, federate, epoch, entry);
             }
         }
-        Ok(())
     }
 
-    fn unregulate(&mut self, federate: u32) -> Result<bool, AllocError> {
+    fn unregulate(&mut self, federate: u32) {
         let mut clock = self.members.member(federate).clock;
-        let was_regulating = clock.is_regulating();
         clock.regulating = Role::Disabled;
         self.members.set_clock(federate, clock);
-        self.put_null(federate, FOREVER)?;
-        Ok(was_regulating)
+        self.put_null(federate, FOREVER);
     }
 
     /// All that waits in the order of stamps is received from now on, in that order.
-    fn unconstrain(&mut self, federate: u32) -> Result<bool, AllocError> {
+    fn unconstrain(&mut self, federate: u32) {
         let mut clock = self.members.member(federate).clock;
-        let is_allowed = clock.is_constrained() && !clock.is_advancing();
         clock.constrained = Role::Disabled;
         self.members.set_clock(federate, clock);
-        self.receive_below(federate, FOREVER)?;
-        Ok(is_allowed)
+        self.receive_below(federate, FOREVER);
     }
 
     /// What waits in the order of stamps and is stamped below a time is received from now on, in that order.
-    fn receive_below(&mut self, federate: u32, time: u64) -> Result<(), AllocError> {
+    fn receive_below(&mut self, federate: u32, time: u64) {
         for _ in 0..10_000 {
             let first = self.copies.first_below(federate, time);
             if first.stamp >= time {
-                return Ok(());
+                return;
             }
-            self.receive(first.event, federate)?;
+            self.receive(first.event, federate);
         }
-        Ok(())
     }
 
-    /// A regulator announces what it may promise, if that is more than it announced last. `AllocError` where a growth was
-    /// refused; then the books are left halfway.
-    pub fn announce(&mut self, federate: u32, answer: &str) -> Result<bool, AllocError> {
+    /// A regulator announces what it may promise, if that is more than it announced last.
+    pub fn announce(&mut self, federate: u32, answer: &str) -> bool {
         let clock = self.members.member(federate).clock;
         let promise = clock.promise(self.waiting(federate), self.rows.bound(federate));
         if matches!(clock.regulating, Role::Disabled) || promise <= clock.last_announced {
-            return Ok(answer == "none");
+            return answer == "none";
         }
-        self.put_null(federate, promise)?;
-        Ok(ticks(answer) == promise)
+        self.put_null(federate, promise);
+        ticks(answer) == promise
     }
 
     /// A retraction is for a federate's own message in time-stamp order, not retracted before, whose stamp it could still reach.
     pub fn may_retract(&self, federate: u32, event: EventName) -> bool {
         let clock = self.members.member(federate).clock;
-        let is_own = event.sender == federate && !self.copies.is_deletion(event);
-        clock.is_regulating()
-            && is_own
-            && self.copies.is_unretracted_above(event, clock.least_stamp())
+        let is_own = event.sender == federate && clock.is_regulating();
+        match self.messages.message(event) {
+            Some(message) => is_own && message.may_be_retracted(clock.least_stamp()),
+            None => false,
+        }
     }
 
-    /// A retraction goes to each federate to which its message went. `AllocError` where a growth was refused; then the books
-    /// are left halfway.
-    pub fn retract(&mut self, federate: u32, event: EventName) -> Result<bool, AllocError> {
+    /// A retraction goes to each federate to which its message went.
+    pub fn retract(&mut self, federate: u32, event: EventName) -> bool {
         let is_allowed = self.may_retract(federate, event);
-        self.copies.retract(event);
-        for member in self.members.list.as_slice() {
-            if member.is_other(federate)
-                && matches!(self.copies.fate(event, member.number), Some(_))
-            {
-                let letter = Letter::Retraction { event };
-                self.wires.put(federate, member.number, letter)?;
+        self.messages.retract(event);
+        for member in self.members.entries.as_slice() {
+            if member.is_other(federate) && self.copies.fate(event, member.number).is_some() {
+                self.wires
+                    .put(federate, member.number, Letter::Retraction { event });
             }
         }
-        Ok(is_allowed)
+        is_allowed
     }
 
     // ---- ticks
@@ -204,42 +171,40 @@ impl Books {
         }
     }
 
-    /// A federate is told what is due. `AllocError` where a growth was refused; then the books are left halfway.
-    pub fn tick(&mut self, federate: u32, callback: &str) -> Result<bool, AllocError> {
+    /// A federate is told what is due.
+    pub fn tick(&mut self, federate: u32, callback: &str) -> bool {
         if callback != "nothing" {
             self.tally.told = self.tally.told.saturating_add(1);
         }
         let (word, rest) = cut(callback);
         let time = ticks(rest);
         match self.due(federate) {
-            Due::Nothing => Ok(callback == "nothing"),
+            Due::Nothing => callback == "nothing",
             Due::Control => self.control(federate, callback),
-            Due::Received => Ok(self.give_received(federate, callback)),
-            Due::Regulation => Ok(word == "regulationEnabled" && self.begin(federate, time)),
-            Due::Constraint => {
-                Ok(word == "constrainedEnabled" && self.constrain(federate, time)?)
-            }
-            Due::Ordered => Ok(self.give_ordered(federate, callback)),
-            Due::Grant => Ok(word == "grant" && self.grant(federate, time)),
+            Due::Received => self.give_received(federate, callback),
+            Due::Regulation => self.begin(federate, time) && word == "regulationEnabled",
+            Due::Constraint => self.constrain(federate, time) && word == "constrainedEnabled",
+            Due::Ordered => self.give_ordered(federate, callback),
+            Due::Grant => self.grant(federate, time) && word == "grant",
         }
     }
 
     /// Discoveries, requests to take a message back and tidings of synchronization points come in the order of their arrival,
     /// each once.
-    fn control(&mut self, federate: u32, callback: &str) -> Result<bool, AllocError> {
+    fn control(&mut self, federate: u32, callback: &str) -> bool {
         let (word, rest) = cut(callback);
         match self.controls.take_first(0, federate) {
             Some(Letter::Discovery { object }) => {
-                Ok(word == "discover" && number(cut(rest).0) == object)
+                word == "discover" && number(cut(rest).0) == object
             }
             Some(Letter::Retraction { event }) => {
                 self.tally.asked_back = self.tally.asked_back.saturating_add(1);
-                Ok(word == "requestRetraction" && EventName::of(rest).is(event))
+                word == "requestRetraction" && EventName::of(rest).is(event)
             }
             Some(Letter::Point { tiding, label }) => {
                 self.note_tiding(federate, tiding, label, callback)
             }
-            _ => Ok(false),
+            _ => false,
         }
     }
 
@@ -254,7 +219,7 @@ impl Books {
     /// A federate is given a message, in time-stamp order or in receive order, and the transcript says so.
     fn give(&mut self, federate: u32, event: EventName, callback: &str, is_ordered: bool) -> bool {
         self.copies.set_fate(event, federate, Fate::Given);
-        match self.copies.message(event) {
+        match self.messages.message(event) {
             Some(message) => message.is_told_by(&self.texts, callback, is_ordered),
             None => false,
         }
@@ -290,14 +255,14 @@ impl Books {
     }
 
     /// What waits below the time of a federate that is constrained from now on is received.
-    fn constrain(&mut self, federate: u32, time: u64) -> Result<bool, AllocError> {
+    fn constrain(&mut self, federate: u32, time: u64) -> bool {
         let mut clock = self.members.member(federate).clock;
         clock.constrained = Role::Enabled;
         clock.bar = clock.time;
         self.members.set_clock(federate, clock);
         let _ = self.members.note_stamp(federate, 0);
-        self.receive_below(federate, clock.time)?;
-        Ok(time == clock.time)
+        self.receive_below(federate, clock.time);
+        time == clock.time
     }
 
     /// A grant is where it is due, and leaves nothing behind where the federate is constrained and does not flush.
@@ -315,7 +280,7 @@ impl Books {
             Some(advance) if clock.is_constrained() && !advance.kind.is_flush => {
                 self.tally.granted = self.tally.granted.saturating_add(1);
                 self.copies
-                    .is_left_behind(federate, advance.kind.reach(time))
+                    .is_left_behind(federate, advance.kind.reach(time), &self.messages)
             }
             _ => false,
         }

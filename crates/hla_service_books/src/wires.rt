@@ -1,7 +1,7 @@
 //! What lies on wires, and what else waits in the order in which it came.
 
+use crate::columns::Column;
 use crate::texts::EventName;
-use std::alloc::{AllocError, Global};
 
 /// What a federate is told of a synchronization point.
 #[derive(Clone, Copy)]
@@ -25,7 +25,7 @@ pub enum Letter {
 
 /// A letter, from one federate to another, or from the federation, which is 0.
 #[derive(Clone, Copy)]
-struct Posted {
+pub struct Posted {
     from: u32,
     to: u32,
     letter: Letter,
@@ -34,10 +34,7 @@ struct Posted {
 }
 
 /// Wires: whatever goes from one to another is taken in the order in which it was put there.
-#[derive(Drop)]
-pub struct Wires {
-    posted: Vec<Posted>,
-}
+pub type Wires = Column<Posted>;
 
 impl Posted {
     /// Whether it lies on a wire.
@@ -46,47 +43,33 @@ impl Posted {
     }
 }
 
-impl Wires {
-    /// Wires with nothing on them.
-    pub fn new(alloc: Global) -> Wires {
-        Wires {
-            posted: Vec::new(alloc),
-        }
-    }
-
-    /// Puts a letter on a wire, behind the others. `AllocError` where a growth was refused.
-    pub fn put(&mut self, from: u32, to: u32, letter: Letter) -> Result<(), AllocError> {
-        self.posted.push(Posted {
+impl Column<Posted> {
+    /// Puts a letter on a wire, behind the others.
+    pub fn put(&mut self, from: u32, to: u32, letter: Letter) {
+        self.add(Posted {
             from,
             to,
             letter,
             is_gone: false,
-        })?;
-        Ok(())
+        });
     }
 
     /// Puts a null message on a wire, behind the others; it takes the place of the last one there, where that is a null message
-    /// of its epoch. `AllocError` where a growth was refused.
-    pub fn put_null(
-        &mut self,
-        from: u32,
-        to: u32,
-        epoch: u32,
-        bound: u64,
-    ) -> Result<(), AllocError> {
+    /// of its epoch.
+    pub fn put_null(&mut self, from: u32, to: u32, epoch: u32, bound: u64) {
         let last = self.last_place(from, to);
-        if let Some(posted) = self.posted.get_mut(last) {
+        if let Some(posted) = self.entries.get_mut(last) {
             if matches!(posted.letter, Letter::Null { epoch: own, .. } if own == epoch) {
                 posted.is_gone = true;
             }
         }
-        self.put(from, to, Letter::Null { epoch, bound })
+        self.put(from, to, Letter::Null { epoch, bound });
     }
 
     /// Where the last letter on a wire stands, or behind all letters.
     fn last_place(&self, from: u32, to: u32) -> usize {
-        let mut last = self.posted.len();
-        for (place, posted) in self.posted.iter().enumerate() {
+        let mut last = self.entries.len();
+        for (place, posted) in self.entries.iter().enumerate() {
             if posted.is_between(from, to) {
                 last = place;
             }
@@ -96,7 +79,7 @@ impl Wires {
 
     /// Whether there is something on a wire.
     pub fn are_used(&self, from: u32, to: u32) -> bool {
-        for posted in self.posted.as_slice() {
+        for posted in self.entries.as_slice() {
             if posted.is_between(from, to) {
                 return true;
             }
@@ -106,7 +89,7 @@ impl Wires {
 
     /// Takes what was put first on the wire from one federate to another.
     pub fn take_first(&mut self, from: u32, to: u32) -> Option<Letter> {
-        for posted in self.posted.iter_mut() {
+        for posted in self.entries.iter_mut() {
             if posted.is_between(from, to) {
                 posted.is_gone = true;
                 return Some(posted.letter);
@@ -117,7 +100,7 @@ impl Wires {
 
     /// Drops a message to a federate.
     pub fn drop_message(&mut self, to: u32, event: EventName) {
-        for posted in self.posted.iter_mut() {
+        for posted in self.entries.iter_mut() {
             match posted.letter {
                 Letter::Message { event: own } if posted.to == to && own.is(event) => {
                     posted.is_gone = true;
@@ -129,7 +112,7 @@ impl Wires {
 
     /// A federate has resigned: what lies on wires to it is dropped.
     pub fn drop_all(&mut self, to: u32) {
-        for posted in self.posted.iter_mut() {
+        for posted in self.entries.iter_mut() {
             if posted.to == to {
                 posted.is_gone = true;
             }

@@ -35,7 +35,10 @@ A regulate 4 1
 A regulate 6 1000000000000000001
 B tick
 carry A B
-join A",
+join A
+announce B
+carry A A
+A publishInteraction Hit",
     transcript: "ok 1
 ok
 error 26 EnableTimeRegulationPending
@@ -67,7 +70,10 @@ error 21 InvalidFederationTime
 error 22 InvalidLookahead
 error 6 FederateNotExecutionMember
 error 6 FederateNotExecutionMember
-error 5 FederateAlreadyExecutionMember",
+error 5 FederateAlreadyExecutionMember
+error 6 FederateNotExecutionMember
+error 6 FederateNotExecutionMember
+ok",
     forgeries: &[
         (3, "error 25"),
         (4, "error 25"),
@@ -96,5 +102,16 @@ error 5 FederateAlreadyExecutionMember",
         (4, "ok"),
         (10, "ok"),
         (26, "ok"),
+        (7, "ok"),
+        (13, "ok"),
+        (14, "ok"),
+        (28, "ok"),
+        (29, "ok"),
+        (30, "ok nothing"),
+        (31, "ok none"),
+        (33, "ok none"),
+        (34, "ok none"),
+        (8, "ok 1.1"),
+        (35, "ok 1.1"),
     ],
 };

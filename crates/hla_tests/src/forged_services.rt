@@ -138,7 +138,9 @@ ok retraction 1.3
 ok requestRetraction 1.3
 ok nothing",
     forgeries: &[
+        (3, "ok 1"),
         (9, "error 33 InvalidRetractionHandle"),
+        (9, "ok 1.1"),
         (10, "ok"),
         (12, "ok"),
         (13, "ok 1.2"),
