@@ -15,7 +15,7 @@ use Rattle.hla_history.specs.Creating.{heard_from}
 use Rattle.hla_history.specs.Heard.{heard_by}
 use Rattle.hla_history.specs.Hosts.{Host, Hosts, Held, IsLockKept, with_record}
 use Rattle.hla_history.specs.Writing.{step_record}
-use Rattle.hla_history.proofs.Records.Kept.{heard_by-more}
+use Rattle.hla_history.proofs.Records.{heard_by-more}
 use Rattle.hla_callers.specs.declared.closing.CloseFault.{CloseFault}
 use Rattle.hla_callers.specs.declared.closing.CloseFault.TheVariants as close_fault
 use Rattle.hla_callers.specs.Callers.{Caller, Leaver, IsKnownBehind}

@@ -12,8 +12,7 @@ ghost use Rattle.hla_callers.specs.Close.{AllHere, AllAgree, AreOfCallers, Diffe
 use crate::comparing::first_differing;
 use crate::seat::{Left, Seat};
 use hla_callbacks::FederateAmbassador;
-use hla_execution::Execution;
-use hla_history::Shared;
+use hla_history::History;
 use hla_machine::Record;
 use hla_monitor::Naming;
 use std::marker::Model;
@@ -122,8 +121,8 @@ pub struct Unsettled<L: Ledger + Naming, B: FederateAmbassador> {
 
 /// Lent what is under the lock: compares all transcripts with the history, and takes the records out where they agree. Else
 /// `Transcript` with the place of the first that differs; then all comes back, and nothing has changed.
-pub fn settle<L: Ledger + Naming, B: FederateAmbassador, F: Execution>(
-    shared: &mut Shared<L, B, F>,
+pub fn settle<L: Ledger + Naming, B: FederateAmbassador, H: History<L, B>>(
+    shared: &mut H,
     seat: Seat<L>,
     rest: Share<L>,
     lefts: Vec<Left<L, B>>,
@@ -132,13 +131,13 @@ pub fn settle<L: Ledger + Naming, B: FederateAmbassador, F: Execution>(
     requires parts { L.parts ≡ ledger_parts }
     requires rest { rest.parts + handed ≡ max_callers }
     requires here { AllHere handed lefts.items }
-    ensures records { IfOk result (λ c. c ≡ shared.old.history) }
-    ensures agree { OnOk result (AllAgree shared.old.history lefts.items seat) }
+    ensures records { IfOk result (λ c. c ≡ (H.value shared.old).history) }
+    ensures agree { OnOk result (AllAgree (H.value shared.old).history lefts.items seat) }
     ensures theirs { rest.amount ≡ 0 → seat.number ≡ 0 → IfOk result (AreOfCallers handed) }
     ensures differs { IfErr result (λ u. (k : ℕ) × (u.fault ≡ CloseFault.Transcript k)
-        × DiffersFirst shared.old.history lefts.items seat k) }
+        × DiffersFirst (H.value shared.old).history lefts.items seat k) }
     ensures back { IfErr result (λ u. (u.seat ≡ seat) × (u.rest ≡ rest) × (u.lefts ≡ lefts)) }
-    ensures same { OnErr result (shared.new ≡ shared.old) }
+    ensures same { OnErr result (H.value shared.new ≡ H.value shared.old) }
 {
     let alloc = *lefts.allocator();
     if let Some(place) = first_differing(alloc, shared, lefts.as_slice(), &seat) {

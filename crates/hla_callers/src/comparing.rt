@@ -5,8 +5,7 @@ ghost use Rattle.hla_callers.specs.Close.{AllAgree, AllStand, DiffersFirst};
 
 use crate::seat::{Left, Seat};
 use hla_callbacks::FederateAmbassador;
-use hla_execution::Execution;
-use hla_history::{Shared, Unmatched};
+use hla_history::{History, Unmatched};
 use hla_monitor::Naming;
 use std::alloc::Global;
 use std::sync::ledger::Ledger;
@@ -54,15 +53,15 @@ fn transcript_table<'a, L: Ledger + Naming, B: FederateAmbassador>(
 }
 
 /// The place of the first transcript that differs from the history, if one does, by one pass over the history for all.
-fn first_unmatched<L: Ledger + Naming, B: FederateAmbassador, F: Execution>(
-    shared: &Shared<L, B, F>,
+fn first_unmatched<L: Ledger + Naming, B: FederateAmbassador, H: History<L, B>>(
+    shared: &H,
     table: &mut [Unmatched],
     lefts: &[Left<L, B>],
     own: &Seat<L>,
 ) -> Option<usize>
     requires { AllStand table.old lefts.now own.now }
-    ensures none { IfNone result (AllAgree shared.now.history lefts.now own.now) }
-    ensures some { IfSome result (λ k. DiffersFirst shared.now.history lefts.now own.now k) }
+    ensures none { IfNone result (AllAgree (H.value shared.now).history lefts.now own.now) }
+    ensures some { IfSome result (λ k. DiffersFirst (H.value shared.now).history lefts.now own.now k) }
 {
     shared.match_all(table);
     for (k, left) in lefts.iter().enumerate() {
@@ -78,13 +77,13 @@ fn first_unmatched<L: Ledger + Naming, B: FederateAmbassador, F: Execution>(
 
 /// The place of the first transcript that differs from the history, if one does, by a pass over the history for each; it
 /// takes no memory.
-fn first_in_turn<L: Ledger + Naming, B: FederateAmbassador, F: Execution>(
-    shared: &Shared<L, B, F>,
+fn first_in_turn<L: Ledger + Naming, B: FederateAmbassador, H: History<L, B>>(
+    shared: &H,
     lefts: &[Left<L, B>],
     own: &Seat<L>,
 ) -> Option<usize>
-    ensures none { IfNone result (AllAgree shared.now.history lefts.now own.now) }
-    ensures some { IfSome result (λ k. DiffersFirst shared.now.history lefts.now own.now k) }
+    ensures none { IfNone result (AllAgree (H.value shared.now).history lefts.now own.now) }
+    ensures some { IfSome result (λ k. DiffersFirst (H.value shared.now).history lefts.now own.now k) }
 {
     for (k, left) in lefts.iter().enumerate() {
         if !left.agrees_with(shared) {
@@ -98,14 +97,14 @@ fn first_in_turn<L: Ledger + Naming, B: FederateAmbassador, F: Execution>(
 }
 
 /// The place of the first transcript that differs from the history, if one does.
-pub(crate) fn first_differing<L: Ledger + Naming, B: FederateAmbassador, F: Execution>(
+pub(crate) fn first_differing<L: Ledger + Naming, B: FederateAmbassador, H: History<L, B>>(
     alloc: Global,
-    shared: &Shared<L, B, F>,
+    shared: &H,
     lefts: &[Left<L, B>],
     own: &Seat<L>,
 ) -> Option<usize>
-    ensures none { IfNone result (AllAgree shared.now.history lefts.now own.now) }
-    ensures some { IfSome result (λ k. DiffersFirst shared.now.history lefts.now own.now k) }
+    ensures none { IfNone result (AllAgree (H.value shared.now).history lefts.now own.now) }
+    ensures some { IfSome result (λ k. DiffersFirst (H.value shared.now).history lefts.now own.now k) }
 {
     match transcript_table(alloc, lefts, own) {
         Some(mut table) => first_unmatched(shared, table.as_mut_slice(), lefts, own),

@@ -23,38 +23,39 @@ use crate::patience::{Patience, vain_steps_after};
 use crate::seat::{Left, Seat};
 use hla_base::{ExecutionName, Fault, FederateNo, List};
 use hla_callbacks::FederateAmbassador;
-use hla_execution::Execution;
-use hla_history::{Shared, Stepped};
+use hla_history::{History, Stepped};
 use hla_machine::{Outcome, Record, ResignAction, Step};
 use hla_monitor::{Board, Monitor, Naming, Publisher, Told};
-use std::marker::Model;
+use std::marker::{Model, PhantomData};
 use std::sync::ledger::{Ledger, Share};
 
 /// The history with its executions, and the board that shows it to monitors: each record is kept there before the lock is
 /// given back. Contracts see both, and whether the records have gone out, as closing does.
 #[derive(Drop)]
-pub struct Locked<L: Ledger + Naming, B: FederateAmbassador, W: Publisher<L>, F: Execution> {
-    shared: Shared<L, B, F>,
+pub struct Locked<L: Ledger + Naming, B: FederateAmbassador, W: Publisher<L>, H: History<L, B>> {
+    shared: H,
     board: Board<L, W>,
     ended: bool,
     /// How many steps were in vain: by these callers know whether anybody waits.
     vain_steps: u64,
+    /// The type of the ambassadors that the history keeps.
+    ambassadors: PhantomData<B>,
 }
 
-impl<L: Ledger + Naming, B: FederateAmbassador, W: Publisher<L>, F: Execution> Model
-    for Locked<L, B, W, F> {
+impl<L: Ledger + Naming, B: FederateAmbassador, W: Publisher<L>, H: History<L, B>> Model
+    for Locked<L, B, W, H> {
     ghost use Rattle.hla_callers.specs.Locked.{LockedValue, IsPostedWhile};
 
     ghost Value = { LockedValue };
 
     ghost view = { λ l. record {
-      held = l.shared;
+      held = H.value l.shared;
       posted = l.board;
       ended = l.ended;
       vain_steps = l.vain_steps;
     } };
 
-    ghost invariant = { λ l. IsPostedWhile l.ended l.shared.history l.board };
+    ghost invariant = { λ l. IsPostedWhile l.ended (H.value l.shared).history l.board };
 }
 
 /// Keeps a record of the history on the board. Where memory is refused its counts wait, and no answer changes.
@@ -84,18 +85,29 @@ fn catch_up_board<L: Naming, W: Publisher<L>>(board: &mut Board<L, W>) -> Result
     board.catch_up()
 }
 
-impl<L: Ledger + Naming, B: FederateAmbassador, W: Publisher<L>, F: Execution> Locked<L, B, W, F> {
+impl<L: Ledger + Naming, B: FederateAmbassador, W: Publisher<L>, H: History<L, B>> Locked<
+    L,
+    B,
+    W,
+    H,
+> {
     /// A history that is empty, and its board.
-    pub fn new(shared: Shared<L, B, F>, board: Board<L, W>) -> Self
-        requires history { shared.history ≡ [] }
+    pub fn new(shared: H, board: Board<L, W>) -> Self
+        requires history { (H.value shared).history ≡ [] }
         requires board { board ≡ record { whole = true; shown = []; published = []; monitors = 0 } }
-        ensures { result ≡ record { held = shared; posted = board; ended = false; vain_steps = 0 } }
+        ensures { result ≡ record {
+          held = H.value shared;
+          posted = board;
+          ended = false;
+          vain_steps = 0;
+        } }
     {
         Locked {
             shared,
             board,
             ended: false,
             vain_steps: 0,
+            ambassadors: PhantomData,
         }
     }
 

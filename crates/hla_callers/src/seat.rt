@@ -16,8 +16,7 @@ use crate::locked::Locked;
 use crate::patience::Patience;
 use hla_base::{ExecutionName, Fault, FederateNo, List};
 use hla_callbacks::FederateAmbassador;
-use hla_execution::Execution;
-use hla_history::{Shared, Stepped, Unmatched};
+use hla_history::{History, Stepped, Unmatched};
 use hla_machine::{Answer, Outcome, Record, ResignAction, Step};
 use hla_monitor::{Board, Naming, Publisher, Told};
 use std::alloc::Global;
@@ -115,8 +114,8 @@ impl<L: Ledger + Naming, B: FederateAmbassador> Left<L, B> {
     }
 
     /// Whether the transcript is just the caller's records in the history, in order.
-    pub(crate) fn agrees_with<F: Execution>(&self, shared: &Shared<L, B, F>) -> bool
-        ensures { IsTrue result ↔ Agrees shared.now.history self.now.caller }
+    pub(crate) fn agrees_with<H: History<L, B>>(&self, shared: &H) -> bool
+        ensures { IsTrue result ↔ Agrees (H.value shared.now).history self.now.caller }
     {
         self.seat.agrees_with(shared)
     }
@@ -233,10 +232,10 @@ impl<L: Ledger + Naming> Seat<L> {
 
     /// Does a step that is no joining and no resigning, under the lock, and writes it down. It answers what the record says;
     /// `HistoryFull` and `OutOfMemory` come without a record, and then nothing has changed.
-    pub fn call<B: FederateAmbassador, W: Publisher<L>, F: Execution>(
+    pub fn call<B: FederateAmbassador, W: Publisher<L>, H: History<L, B>>(
         &mut self,
         rt: &impl Wait,
-        shared: &Mutex<Locked<L, B, W, F>>,
+        shared: &Mutex<Locked<L, B, W, H>>,
         execution: ExecutionName,
         step: Step,
     ) -> Result<Answer, Fault>
@@ -265,10 +264,10 @@ impl<L: Ledger + Naming> Seat<L> {
 
     /// Creates an execution under the lock, and writes it down. It answers what the record says; `HistoryFull` and
     /// `OutOfMemory` come without a record, and then nothing has changed.
-    pub fn create<B: FederateAmbassador, W: Publisher<L>, F: Execution>(
+    pub fn create<B: FederateAmbassador, W: Publisher<L>, H: History<L, B>>(
         &mut self,
         rt: &impl Wait,
-        shared: &Mutex<Locked<L, B, W, F>>,
+        shared: &Mutex<Locked<L, B, W, H>>,
         name: ExecutionName,
         fed: &[u8],
     ) -> Result<Answer, Fault>
@@ -290,10 +289,10 @@ impl<L: Ledger + Naming> Seat<L> {
 
     /// Destroys an execution under the lock, and writes it down. It answers what the record says; `HistoryFull` and
     /// `OutOfMemory` come without a record, and then nothing has changed.
-    pub fn destroy<B: FederateAmbassador, W: Publisher<L>, F: Execution>(
+    pub fn destroy<B: FederateAmbassador, W: Publisher<L>, H: History<L, B>>(
         &mut self,
         rt: &impl Wait,
-        shared: &Mutex<Locked<L, B, W, F>>,
+        shared: &Mutex<Locked<L, B, W, H>>,
         name: ExecutionName,
     ) -> Result<Answer, Fault>
         ensures answered { HasAnswered self.old name act.Destroy result self.new }
@@ -312,10 +311,10 @@ impl<L: Ledger + Naming> Seat<L> {
     }
 
     /// Joins a federate under the lock, and writes it down: its number, or why it is refused, with its ambassador.
-    pub fn join<B: FederateAmbassador, W: Publisher<L>, F: Execution>(
+    pub fn join<B: FederateAmbassador, W: Publisher<L>, H: History<L, B>>(
         &mut self,
         rt: &impl Wait,
-        shared: &Mutex<Locked<L, B, W, F>>,
+        shared: &Mutex<Locked<L, B, W, H>>,
         execution: ExecutionName,
         name: List<u8>,
         inner: B,
@@ -345,10 +344,10 @@ impl<L: Ledger + Naming> Seat<L> {
     }
 
     /// Resigns a federate under the lock, and writes it down: its ambassador, or why it is refused.
-    pub fn resign<B: FederateAmbassador, W: Publisher<L>, F: Execution>(
+    pub fn resign<B: FederateAmbassador, W: Publisher<L>, H: History<L, B>>(
         &mut self,
         rt: &impl Wait,
-        shared: &Mutex<Locked<L, B, W, F>>,
+        shared: &Mutex<Locked<L, B, W, H>>,
         execution: ExecutionName,
         federate: FederateNo,
         action: ResignAction,
@@ -392,11 +391,8 @@ impl<L: Ledger + Naming> Seat<L> {
     }
 
     /// Whether the transcript is just this caller's records in the history, in order.
-    pub(crate) fn agrees_with<B: FederateAmbassador, F: Execution>(
-        &self,
-        shared: &Shared<L, B, F>,
-    ) -> bool
-        ensures { IsTrue result ↔ Agrees shared.now.history self.now }
+    pub(crate) fn agrees_with<B: FederateAmbassador, H: History<L, B>>(&self, shared: &H) -> bool
+        ensures { IsTrue result ↔ Agrees (H.value shared.now).history self.now }
     {
         shared.agrees(self.number, self.transcript.as_slice())
     }

@@ -3,7 +3,7 @@
 ghost use Rattle.std.specs.Prelude.{◌≡◌, ◌≤◌, ◌<◌, true, OnOk, IfOk, IfErr, ◌∷◌, []};
 ghost use Rattle.hla_base.specs.Limits.{max_serial};
 ghost use Rattle.hla_base.specs.declared.fault.Fault.TheVariants.{OutOfMemory};
-ghost use Rattle.hla_object_registry.specs.Registered.{registry_of};
+ghost use Rattle.hla_machine.specs.Registered.{registry_of};
 ghost use Rattle.hla_machine.specs.Directory.{deletion_sent, without_object};
 ghost use Rattle.hla_machine.specs.Machine.{after_delete, with_central_directory};
 ghost use Rattle.hla_machine.specs.declared.service.Service.TheVariants as services;

@@ -7,7 +7,7 @@ ghost use Rattle.hla_base.specs.declared.fault.Fault.TheVariants.{OutOfMemory};
 ghost use Rattle.hla_base.specs.Limits.{max_joins};
 ghost use Rattle.hla_base.specs.Tables.{is_other, upd2, upd_row, when};
 ghost use Rattle.hla_declaration.specs.Declarations.{declarations_of};
-ghost use Rattle.hla_object_registry.specs.Registered.{registry_of};
+ghost use Rattle.hla_machine.specs.Registered.{registry_of};
 ghost use Rattle.hla_machine.specs.Directory.{Directory, discoveries_of, discovery_of, with_discoveries_made};
 ghost use Rattle.hla_accounts.specs.Accounts.{account_at, central_with, offers_from};
 ghost use Rattle.hla_verdicts.specs.Kept.{directory_kept};

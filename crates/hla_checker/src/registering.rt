@@ -8,7 +8,7 @@ ghost use Rattle.hla_base.specs.Limits.{max_objects};
 ghost use Rattle.hla_base.specs.RowRefusals.{first_fault};
 ghost use Rattle.hla_declaration.specs.Declarations.{declarations_of};
 ghost use Rattle.hla_object_registry.specs.Queries.{is_name_used_in};
-ghost use Rattle.hla_object_registry.specs.Registered.{registry_of};
+ghost use Rattle.hla_machine.specs.Registered.{registry_of};
 ghost use Rattle.hla_machine.specs.Machine.{after_register, central_seen};
 ghost use Rattle.hla_machine.specs.Refusals.{call_tests, is_length_in};
 ghost use Rattle.hla_machine.specs.declared.service.Service.TheVariants as services;

@@ -4,9 +4,9 @@ use Rattle.hla_base.specs.declared.content.Event.{Event}
 use Rattle.hla_null_message.specs.declared.message.Message.{Message}
 use Rattle.hla_base.specs.Tables.{or_else}
 use Rattle.hla_machine.specs.Central.{Central, Copy, Ro, Tso, Demoted}
-use Rattle.hla_order_queues.specs.Queues.{find_event}
+use Rattle.hla_component_rules.specs.Queues.{find_event}
 use Rattle.hla_null_message.specs.Wires.{events, discoveries, retractions}
-use Rattle.hla_order_queues.specs.Controls.{discoveries_from, dues, notices_in}
+use Rattle.hla_component_rules.specs.Controls.{discoveries_from, dues, notices_in}
 use Rattle.hla_components.specs.Components.{Components}
 
 -- a copy on a wire goes as it was sent, one that waits in key order in time-stamp order, and one in the other queue in receive order

@@ -2,7 +2,7 @@
 use Rattle.std.specs.Prelude.{ℕ, cond, eqb}
 use Rattle.hla_base.specs.Tables.{least, greatest}
 use Rattle.hla_base.specs.Rows.{bar_of}
-use Rattle.hla_local.specs.Promising.{promise_of, entry_for}
+use Rattle.hla_component_rules.specs.Promising.{promise_of, entry_for}
 use Rattle.hla_components.specs.Components.{Components}
 
 -- the least bound of its peers

@@ -8,7 +8,7 @@ use Rattle.hla_base.specs.Tables.{forever}
 use Rattle.hla_base.specs.Rows.{new_row}
 use Rattle.hla_retraction.specs.SentEvents.{SentEvent, no_event}
 use Rattle.hla_machine.specs.Directory.{Directory, new_directory}
-use Rattle.hla_order_queues.specs.declared.control.Control.{Control}
+use Rattle.hla_component_rules.specs.declared.control.Control.{Control}
 
 pub record Components : Type 0 where
   pub directory : Directory

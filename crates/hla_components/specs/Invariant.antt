@@ -12,13 +12,13 @@ use Rattle.hla_base.specs.Tables.{is_other, least}
 use Rattle.hla_base.specs.Rows.{is_regulator, is_constrained, is_pending, RowNumbers}
 use Rattle.hla_machine.specs.Directory.{Directory, served_object}
 use Rattle.hla_machine.specs.CentralInvariant.{CentralInv}
-use Rattle.hla_order_queues.specs.declared.control.Control.{Control}
-use Rattle.hla_order_queues.specs.declared.control.Control.TheVariants.{ToDiscover, ToRetract, ToTell}
-use Rattle.hla_order_queues.specs.Queues.{is_before, occurrences}
+use Rattle.hla_component_rules.specs.declared.control.Control.{Control}
+use Rattle.hla_component_rules.specs.declared.control.Control.TheVariants.{ToDiscover, ToRetract, ToTell}
+use Rattle.hla_component_rules.specs.Queues.{is_before, occurrences}
 use Rattle.hla_null_message.specs.Wires.{events, discoveries}
 use Rattle.hla_retraction.specs.SentEvents.{SentEvent}
 use Rattle.hla_components.specs.Components.{Components}
-use Rattle.hla_local.specs.Promising.{promise_of}
+use Rattle.hla_component_rules.specs.Promising.{promise_of}
 use Rattle.hla_components.specs.CentralOf.{central}
 
 -- P holds of each

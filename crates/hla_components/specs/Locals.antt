@@ -6,13 +6,13 @@ use Rattle.hla_lbts.specs.declared.row.PeerRow.{PeerRow}
 use Rattle.hla_lbts.specs.Peers.{peers_of}
 use Rattle.hla_null_message.specs.declared.message.Message.{Message}
 use Rattle.hla_null_message.specs.declared.message.Message.TheVariants as message
-use Rattle.hla_order_queues.specs.declared.control.Control.TheVariants.{ToDiscover, ToRetract, ToTell}
-use Rattle.hla_order_queues.specs.Queues.{handles_of}
-use Rattle.hla_local.specs.LocalValue.{LocalValue}
-use Rattle.hla_local.specs.declared.picked.Picked.{Picked}
-use Rattle.hla_local.specs.declared.picked.Picked.TheVariants as picked
-use Rattle.hla_local.specs.Picking.{Pick, PickConstrains, is_below, picked_by, local_pick, local_picking}
-use Rattle.hla_local.specs.Arriving.{MayCome, local_accepting, peers_accepting}
+use Rattle.hla_component_rules.specs.declared.control.Control.TheVariants.{ToDiscover, ToRetract, ToTell}
+use Rattle.hla_component_rules.specs.Queues.{handles_of}
+use Rattle.hla_component_rules.specs.LocalValue.{LocalValue}
+use Rattle.hla_component_rules.specs.declared.picked.Picked.{Picked}
+use Rattle.hla_component_rules.specs.declared.picked.Picked.TheVariants as picked
+use Rattle.hla_component_rules.specs.Picking.{Pick, PickConstrains, is_below, picked_by, local_pick, local_picking}
+use Rattle.hla_component_rules.specs.Arriving.{MayCome, local_accepting, peers_accepting}
 use Rattle.hla_callbacks.specs.declared.callback.Callback.{Callback}
 use Rattle.hla_callbacks.specs.declared.callback.Callback.TheVariants as callback
 use Rattle.hla_callbacks.specs.declared.callback.Delivery.TheVariants as delivery

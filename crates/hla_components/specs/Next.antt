@@ -45,14 +45,14 @@ use Rattle.hla_machine.specs.Directory.{Directory, Outgoing, name_or_default, ob
 use Rattle.hla_machine.specs.Sends.{is_ordered, kept_stamp, sent_event, sent_handle, is_told}
 use Rattle.hla_machine.specs.Refusals.{Seen, refusal, is_known}
 use Rattle.hla_machine.specs.Machine.{is_removal}
-use Rattle.hla_order_queues.specs.declared.control.Control.{Control}
-use Rattle.hla_order_queues.specs.declared.control.Control.TheVariants.{ToDiscover, ToRetract, ToTell}
-use Rattle.hla_order_queues.specs.Queues.{remove_event, handle_of, handles_of}
+use Rattle.hla_component_rules.specs.declared.control.Control.{Control}
+use Rattle.hla_component_rules.specs.declared.control.Control.TheVariants.{ToDiscover, ToRetract, ToTell}
+use Rattle.hla_component_rules.specs.Queues.{remove_event, handle_of, handles_of}
 use Rattle.hla_components.specs.Components.{Components}
 use Rattle.hla_components.specs.Component.{local_bound, promise, regulation_entry}
-use Rattle.hla_local.specs.Promising.{least_waiting}
-use Rattle.hla_local.specs.Arriving.{tso_with_event, ro_with_event, controls_with_retraction}
-use Rattle.hla_local.specs.Picking.{is_below, Pick, NoPick, PickControl, PickRo, PickRegulates, PickConstrains, PickTso, PickGrant, pick}
+use Rattle.hla_component_rules.specs.Promising.{least_waiting}
+use Rattle.hla_component_rules.specs.Arriving.{tso_with_event, ro_with_event, controls_with_retraction}
+use Rattle.hla_component_rules.specs.Picking.{is_below, Pick, NoPick, PickControl, PickRo, PickRegulates, PickConstrains, PickTso, PickGrant, pick}
 
 pub record Outcomes : Type 0 where
   pub outcome : Outcome

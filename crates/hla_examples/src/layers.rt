@@ -18,6 +18,7 @@ use hla_monitor::{Naming, Opened};
 use hla_requests::{AskFault, MemberChange, NamedFederate, Request, note};
 use hla_run::{Ran, RunFault, recorders};
 use hla_script::Watched;
+use hla_shared::Shared;
 use hla_transcript::{Text, print_line};
 use std::alloc::Global;
 use std::marker::Brand;
@@ -214,7 +215,7 @@ fn printed_at<L: Ledger + Naming, R: Wait>(
 {
     let own = recorders(alloc, script)?;
     let mut text = Vec::new(alloc);
-    let ran = run_in_order_within::<L, Recorder, Federation, R, &mut Vec<u8>>(
+    let ran = run_in_order_within::<L, Recorder, Shared<L, Recorder, Federation>, R, &mut Vec<u8>>(
         rt,
         alloc,
         blank,

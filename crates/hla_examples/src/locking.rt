@@ -12,6 +12,7 @@ use hla_in_order::run_in_order;
 use hla_monitor::{Naming, Opened};
 use hla_run::{OpenGate, recorders, run_scripts};
 use hla_script::Watched;
+use hla_shared::Shared;
 use std::alloc::Global;
 use std::marker::Brand;
 use std::sync::Wait;
@@ -37,7 +38,7 @@ fn prints_expected<L: Ledger + Naming, R: Wait>(
         return false;
     };
     let mut transcript = Vec::new(alloc);
-    let ran = run_in_order::<L, Recorder, Federation, R, &mut Vec<u8>>(
+    let ran = run_in_order::<L, Recorder, Shared<L, Recorder, Federation>, R, &mut Vec<u8>>(
         rt,
         alloc,
         blank,
@@ -93,7 +94,14 @@ fn ends_on_threads<L: Ledger + Naming + Send + Sync, R: Threads + Wait + Sync>(
         return false;
     };
     let mut transcript = Vec::new(alloc);
-    let ran = run_scripts::<L, Recorder, Federation, OpenGate, R, &mut Vec<u8>>(
+    let ran = run_scripts::<
+        L,
+        Recorder,
+        Shared<L, Recorder, Federation>,
+        OpenGate,
+        R,
+        &mut Vec<u8>,
+    >(
         rt,
         alloc,
         blank,

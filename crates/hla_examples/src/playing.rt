@@ -11,6 +11,7 @@ use hla_machine::Record;
 use hla_monitor::{Naming, Opened};
 use hla_run::Ran;
 use hla_script::Watched;
+use hla_shared::Shared;
 use hla_trials::{Diary, Heard, Listed, Listener, Trouble, are_of, listeners};
 use std::alloc::Global;
 use std::marker::Brand;
@@ -70,7 +71,7 @@ fn played_at<L: Ledger + Naming, R: Wait>(
         return None;
     };
     let mut text = Vec::new(alloc);
-    let ran = run_in_order_within::<L, Listener, Federation, R, &mut Vec<u8>>(
+    let ran = run_in_order_within::<L, Listener, Shared<L, Listener, Federation>, R, &mut Vec<u8>>(
         rt,
         alloc,
         blank,

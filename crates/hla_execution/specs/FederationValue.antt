@@ -2,7 +2,7 @@
 use Rattle.std.specs.Prelude.{ℕ, List}
 use Rattle.hla_catalogue.specs.CatalogueValue.{CatalogueValue}
 use Rattle.hla_declaration.specs.Lists.{DeclarationLists}
-use Rattle.hla_object_registry.specs.Registered.{Registered}
+use Rattle.hla_machine.specs.Registered.{Registered}
 use Rattle.hla_synchronization.specs.declared.open_points.OpenPoint.{OpenPoint}
 use Rattle.hla_execution.specs.MemberValue.{MemberValue}
 

@@ -4,7 +4,7 @@ use Rattle.hla_null_message.specs.declared.message.Message.{Message}
 use Rattle.hla_retraction.specs.declared.sent.SentRow.{SentRow}
 use Rattle.hla_retraction.specs.SentEvents.{SentEvent}
 use Rattle.hla_retraction.specs.SentRows.{sent_of}
-use Rattle.hla_local.specs.LocalValue.{LocalValue, new_local}
+use Rattle.hla_component_rules.specs.LocalValue.{LocalValue, new_local}
 
 pub record MemberValue : Type 0 where
   pub name : List ℕ

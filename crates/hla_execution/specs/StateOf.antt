@@ -4,7 +4,7 @@ use Rattle.hla_lbts.specs.Peers.{peers_of}
 use Rattle.hla_catalogue.specs.CatalogueValue.{CatalogueValue}
 use Rattle.hla_declaration.specs.Declarations as declared
 use Rattle.hla_declaration.specs.Declarations.{DeclarationsValue}
-use Rattle.hla_object_registry.specs.Registered.{RegistryValue, registry_of}
+use Rattle.hla_machine.specs.Registered.{RegistryValue, registry_of}
 use Rattle.hla_synchronization.specs.Points.{Point}
 use Rattle.hla_synchronization.specs.OpenPoints.{points_of}
 use Rattle.hla_machine.specs.Directory.{Directory}

@@ -4,7 +4,7 @@ ghost use Rattle.std.specs.Prelude.{◌≡◌, ◌<◌, ◌≤◌, ◌+◌, ℕ,
 ghost use Rattle.hla_base.specs.Limits.{max_serial};
 ghost use Rattle.hla_base.specs.declared.content.HandleValuePair.{HandleValuePair};
 ghost use Rattle.hla_base.specs.declared.fault.Fault.TheVariants.{OutOfMemory};
-ghost use Rattle.hla_local.specs.Picking.{copies_content, local_pick, picked_by};
+ghost use Rattle.hla_component_rules.specs.Picking.{copies_content, local_pick, picked_by};
 ghost use Rattle.hla_machine.specs.Directory.{interaction_sent, update_sent, name_or_default};
 ghost use Rattle.hla_machine.specs.Refusals.{refusal};
 ghost use Rattle.hla_machine.specs.Sends.{sent_handle};

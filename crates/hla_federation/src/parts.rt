@@ -2,7 +2,7 @@
 
 ghost use Rattle.std.specs.Prelude.{◌≡◌, length, []};
 ghost use Rattle.hla_declaration.specs.Declarations as declared;
-ghost use Rattle.hla_object_registry.specs.Registered.{registry_of, new_registry};
+ghost use Rattle.hla_machine.specs.Registered.{registry_of, new_registry};
 ghost use Rattle.hla_synchronization.specs.OpenPoints.{points_of};
 ghost use Rattle.hla_federation.specs.Steps.State.{nothing_declared};
 

@@ -10,7 +10,7 @@ ghost use Rattle.hla_null_message.specs.declared.message.Message.TheVariants as 
 ghost use Rattle.hla_machine.specs.Directory.{discovery_of, discoveries_of, with_discoveries_made, with_subscribed};
 ghost use Rattle.hla_machine.specs.declared.service.Service.TheVariants as service;
 ghost use Rattle.hla_machine.specs.declared.step.Step.TheVariants as step;
-ghost use Rattle.hla_object_registry.specs.Registered.{registry_of};
+ghost use Rattle.hla_machine.specs.Registered.{registry_of};
 ghost use Rattle.hla_federation.specs.Steps.Discovering.{AreFederates, discovery_to, with_known_among};
 ghost use Rattle.hla_federation.specs.Steps.Sending.{HasAdded, messages_among};
 ghost use Rattle.hla_federation.specs.Steps.Soundness.{IsSound, MayCall};

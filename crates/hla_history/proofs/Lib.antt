@@ -1,8 +1,2 @@
--- What a step does, and how it answers
-pub mod Steps
--- What the ambassadors have heard, and the ears that hold them
-pub mod Heard
--- What a record keeps and where it stands
+-- What one more record makes of what is heard, and transcripts that are matched with the history, record by record
 pub mod Records
--- Where an execution is found, and how it is created and destroyed
-pub mod Executions

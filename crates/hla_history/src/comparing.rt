@@ -71,7 +71,7 @@ impl<'a> Unmatched<'a> {
 }
 
 /// Whether the transcript is the actor's records in the history, in order.
-pub(crate) fn is_transcript(history: &[Record], actor: u32, transcript: &[Record]) -> bool
+pub fn is_transcript(history: &[Record], actor: u32, transcript: &[Record]) -> bool
     ensures { IsTrue result ↔ (transcript.now ≡ records_by actor history.now) }
 {
     let mut left = history;
@@ -92,7 +92,7 @@ pub(crate) fn is_transcript(history: &[Record], actor: u32, transcript: &[Record
 }
 
 /// Matches all transcripts, each at its actor's number, in one pass over the history.
-pub(crate) fn match_all(history: &[Record], transcripts: &mut [Unmatched])
+pub fn match_all(history: &[Record], transcripts: &mut [Unmatched])
     ensures { (n : ℕ) → (slice_get transcripts.new n ≡ Some (Some []))
         ↔ (slice_get transcripts.old n ≡ Some (Some (records_by n history.now))) }
 {

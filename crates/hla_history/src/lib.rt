@@ -1,19 +1,8 @@
-//! The value under the lock of the run-time infrastructure: all executions, their federates' ambassadors, and the history.
+//! What stands between a history with its executions and who keeps it under a lock: what contracts see of one, and what it does.
 #![tactic(auto)]
 
-mod among;
 mod comparing;
-mod counts;
-mod creating;
-mod delivering;
-mod doing;
-mod host;
-mod joining;
-mod preparing;
-mod seating;
-mod shared;
-mod writing;
+mod history;
 
-pub use comparing::Unmatched;
-pub use preparing::Stepped;
-pub use shared::Shared;
+pub use comparing::{Unmatched, is_transcript, match_all};
+pub use history::{History, Stepped};

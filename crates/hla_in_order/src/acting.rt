@@ -5,7 +5,7 @@ ghost use Rattle.hla_in_order.specs.Turns.{DoesAt, DoesIn, IsJoinedAs, IsJoinedA
 
 use hla_base::{Fault, FederateNo};
 use hla_callbacks::FederateAmbassador;
-use hla_execution::Execution;
+use hla_history::History;
 use hla_machine::Outcome;
 use hla_monitor::{Naming, Publisher};
 use hla_players::{Acted, Deed, Player, do_deed};
@@ -13,8 +13,8 @@ use std::sync::Wait;
 use std::sync::ledger::Ledger;
 
 /// Whether the federate of a number is here, joined.
-fn is_joined_as<L: Ledger + Naming, B: FederateAmbassador, P: Publisher<L>, F: Execution>(
-    slot: &Option<Player<L, B, P, F>>,
+fn is_joined_as<L: Ledger + Naming, B: FederateAmbassador, P: Publisher<L>, H: History<L, B>>(
+    slot: &Option<Player<L, B, P, H>>,
     number: FederateNo,
 ) -> bool
     ensures { IsTrue result ↔ IsJoinedAs number slot.now }
@@ -26,8 +26,8 @@ fn is_joined_as<L: Ledger + Naming, B: FederateAmbassador, P: Publisher<L>, F: E
 }
 
 /// The place of the joined federate of a number, if there is one.
-fn place_of<L: Ledger + Naming, B: FederateAmbassador, P: Publisher<L>, F: Execution>(
-    players: &[Option<Player<L, B, P, F>>],
+fn place_of<L: Ledger + Naming, B: FederateAmbassador, P: Publisher<L>, H: History<L, B>>(
+    players: &[Option<Player<L, B, P, H>>],
     number: FederateNo,
 ) -> Option<usize>
     ensures found { IfSome result (λ k. IsJoinedAt players.now k number) }
@@ -42,9 +42,9 @@ fn place_of<L: Ledger + Naming, B: FederateAmbassador, P: Publisher<L>, F: Execu
 }
 
 /// Has the federate that is here do something, if it is joined.
-fn act_in<L: Ledger + Naming, B: FederateAmbassador, P: Publisher<L>, F: Execution>(
+fn act_in<L: Ledger + Naming, B: FederateAmbassador, P: Publisher<L>, H: History<L, B>>(
     rt: &impl Wait,
-    slot: &mut Option<Player<L, B, P, F>>,
+    slot: &mut Option<Player<L, B, P, H>>,
     deed: Deed,
 ) -> Outcome
     ensures { DoesIn slot.old deed result slot.new }
@@ -64,9 +64,9 @@ fn act_in<L: Ledger + Naming, B: FederateAmbassador, P: Publisher<L>, F: Executi
 }
 
 /// Has the joined federate of a number do something.
-pub fn act<L: Ledger + Naming, B: FederateAmbassador, P: Publisher<L>, F: Execution>(
+pub fn act<L: Ledger + Naming, B: FederateAmbassador, P: Publisher<L>, H: History<L, B>>(
     rt: &impl Wait,
-    players: &mut Vec<Option<Player<L, B, P, F>>>,
+    players: &mut Vec<Option<Player<L, B, P, H>>>,
     number: FederateNo,
     deed: Deed,
 ) -> Outcome

@@ -21,7 +21,7 @@ use hla_base::{ExecutionName, Fault, FederateNo, List, MAX_HISTORY};
 use hla_callbacks::FederateAmbassador;
 use hla_catalogue::Catalogue;
 use hla_commands::{Command, Line};
-use hla_execution::Execution;
+use hla_history::History;
 use hla_interface::{Closed, Courier, Left, Rti, open_rti};
 use hla_machine::{Answer, Outcome, Service, Step};
 use hla_monitor::{Naming, Opened, Publisher};
@@ -38,25 +38,30 @@ use std::sync::ledger::{Blank, Ledger};
 
 /// All callers of a script on one thread, but for the infrastructure.
 #[derive(Drop)]
-pub struct Cast<L: Ledger + Naming, B: FederateAmbassador, P: Publisher<L>, F: Execution> {
+pub struct Cast<L: Ledger + Naming, B: FederateAmbassador, P: Publisher<L>, H: History<L, B>> {
     alloc: Global,
     execution: ExecutionName,
-    courier: Courier<L, B, P, F>,
+    courier: Courier<L, B, P, H>,
     /// Of the federates that are to join.
     ambassadors: Ambassadors<B>,
     members: Vec<NamedFederate>,
     /// The federates, in the order in which they joined; only the one that acts is not there meanwhile.
-    players: Vec<Option<Player<L, B, P, F>>>,
+    players: Vec<Option<Player<L, B, P, H>>>,
 }
 
-impl<L: Ledger + Naming, B: FederateAmbassador, P: Publisher<L>, F: Execution> Cast<L, B, P, F> {
+impl<L: Ledger + Naming, B: FederateAmbassador, P: Publisher<L>, H: History<L, B>> Cast<
+    L,
+    B,
+    P,
+    H,
+> {
     /// Nobody yet.
     fn new(
         alloc: Global,
         execution: ExecutionName,
-        courier: Courier<L, B, P, F>,
+        courier: Courier<L, B, P, H>,
         ambassadors: Ambassadors<B>,
-    ) -> Cast<L, B, P, F>
+    ) -> Cast<L, B, P, H>
         ensures ambassadors { result.ambassadors ≡ ambassadors }
         ensures set { courier ≡ new_caller 1 → execution ≡ codes "play"
             → IsSet [] (record { handed = 1; couriers = 1; own = new_caller 0 }) result }
@@ -76,7 +81,7 @@ impl<L: Ledger + Naming, B: FederateAmbassador, P: Publisher<L>, F: Execution> C
     fn join(
         &mut self,
         rt: &impl Wait,
-        rti: &mut Rti<L, B, P, F>,
+        rti: &mut Rti<L, B, P, H>,
         name: List<u8>,
     ) -> Result<Outcome, Fault>
         requires { 0 < length self.old.ambassadors }
@@ -147,7 +152,7 @@ impl<L: Ledger + Naming, B: FederateAmbassador, P: Publisher<L>, F: Execution> C
     fn step(
         &mut self,
         rt: &impl Wait,
-        rti: &mut Rti<L, B, P, F>,
+        rti: &mut Rti<L, B, P, H>,
         step: Step,
     ) -> Result<Outcome, Fault>
         requires { step_joins step ≤ length self.old.ambassadors }
@@ -169,7 +174,7 @@ impl<L: Ledger + Naming, B: FederateAmbassador, P: Publisher<L>, F: Execution> C
     fn step_and_note(
         &mut self,
         rt: &impl Wait,
-        rti: &mut Rti<L, B, P, F>,
+        rti: &mut Rti<L, B, P, H>,
         step: Step,
     ) -> Result<Outcome, Fault>
         requires { step_joins step ≤ length self.old.ambassadors }
@@ -197,7 +202,7 @@ impl<L: Ledger + Naming, B: FederateAmbassador, P: Publisher<L>, F: Execution> C
     }
 
     /// Creates the execution; its federates' names are not known any more where it is created anew.
-    fn create(&mut self, rt: &impl Wait, rti: &mut Rti<L, B, P, F>, fed: &[u8]) -> Outcome
+    fn create(&mut self, rt: &impl Wait, rti: &mut Rti<L, B, P, H>, fed: &[u8]) -> Outcome
         ensures ambassadors { self.new.ambassadors ≡ self.old.ambassadors }
         ensures members { self.new.members.items ≡ with_create self.old.members.items result }
         ensures led { RequestLeads fed.now request.Create result rti.old self.old rti.new self.new }
@@ -210,7 +215,7 @@ impl<L: Ledger + Naming, B: FederateAmbassador, P: Publisher<L>, F: Execution> C
     }
 
     /// Destroys the execution.
-    fn destroy(&mut self, rt: &impl Wait, rti: &mut Rti<L, B, P, F>) -> Outcome
+    fn destroy(&mut self, rt: &impl Wait, rti: &mut Rti<L, B, P, H>) -> Outcome
         ensures same { self.new ≡ self.old }
         ensures led { (fed : List ℕ) →
             RequestLeads fed request.Destroy result rti.old self.old rti.new self.new }
@@ -238,7 +243,7 @@ impl<L: Ledger + Naming, B: FederateAmbassador, P: Publisher<L>, F: Execution> C
     fn line(
         &mut self,
         rt: &impl Wait,
-        rti: &mut Rti<L, B, P, F>,
+        rti: &mut Rti<L, B, P, H>,
         fed: &[u8],
         catalogue: &Catalogue,
         command: &Command<'_>,
@@ -268,7 +273,7 @@ impl<L: Ledger + Naming, B: FederateAmbassador, P: Publisher<L>, F: Execution> C
     fn lines(
         &mut self,
         rt: &impl Wait,
-        rti: &mut Rti<L, B, P, F>,
+        rti: &mut Rti<L, B, P, H>,
         fed: &[u8],
         catalogue: &Catalogue,
         lines: &[Line<'_>],
@@ -316,10 +321,10 @@ impl<L: Ledger + Naming, B: FederateAmbassador, P: Publisher<L>, F: Execution> C
 }
 
 /// Does the lines of a script one after another. What all leave behind; an error is want of memory outside the steps.
-fn play_lines<L: Ledger + Naming, B: FederateAmbassador, P: Publisher<L>, F: Execution>(
+fn play_lines<L: Ledger + Naming, B: FederateAmbassador, P: Publisher<L>, H: History<L, B>>(
     rt: &impl Wait,
     alloc: Global,
-    rti: &mut Rti<L, B, P, F>,
+    rti: &mut Rti<L, B, P, H>,
     fed: &[u8],
     catalogue: &Catalogue,
     lines: &[Line<'_>],
@@ -350,12 +355,12 @@ fn tell_in_order<
     L: Ledger + Naming,
     B: FederateAmbassador,
     P: Publisher<L>,
-    F: Execution,
+    H: History<L, B>,
     W: Write,
 >(
     rt: &impl Wait,
     alloc: Global,
-    mut rti: Rti<L, B, P, F>,
+    mut rti: Rti<L, B, P, H>,
     fed: &[u8],
     catalogue: &Catalogue,
     lines: &[Line<'_>],
@@ -406,13 +411,13 @@ fn tell_in_order<
 
 /// Plays a script over a FED file behind the lock of a run-time infrastructure, line by line on one thread, in an execution
 /// named `play`: what it asks for is what it asks for of `hla_script::play`. Then it writes how each line came out, and closes.
-/// `F` is how executions are kept, as `Federation` of `hla_federation` is.
+/// `H` is how executions and their history are kept, as `Shared` of `hla_shared` keeps them.
 /// `blank` is a ledger of 2,049 parts and `opened` an empty history, as `open_rti` takes them. `ambassadors` have heard nothing:
 /// each line that joins uses up the next, also where it is refused. `Fed` or else `Script` with the first fault of the texts, or
 /// else `Ambassadors` where there are fewer than `joins` of the lines, with nothing written and no step done; `Memory` where a
 /// growth was refused outside the steps; `Write` only where the writer has failed; and `Close` where the infrastructure does
 /// not close.
-pub fn run_in_order<L: Ledger + Naming, B: FederateAmbassador, F: Execution, R: Wait, W: Write>(
+pub fn run_in_order<L: Ledger + Naming, B: FederateAmbassador, H: History<L, B>, R: Wait, W: Write>(
     rt: &R,
     alloc: Global,
     blank: Blank,
@@ -447,7 +452,7 @@ pub fn run_in_order<L: Ledger + Naming, B: FederateAmbassador, F: Execution, R: 
     // A write has failed where that is answered, and nowhere else.
     ensures failure { out.new.has_failed ≡ (out.old.has_failed || is_unwritten_run result) }
 {
-    let ran = run_in_order_within::<L, B, F, R, W>(
+    let ran = run_in_order_within::<L, B, H, R, W>(
         rt,
         alloc,
         blank,
@@ -473,7 +478,7 @@ pub fn run_in_order<L: Ledger + Naming, B: FederateAmbassador, F: Execution, R: 
 pub fn run_in_order_within<
     L: Ledger + Naming,
     B: FederateAmbassador,
-    F: Execution,
+    H: History<L, B>,
     R: Wait,
     W: Write,
 >(
@@ -516,7 +521,7 @@ pub fn run_in_order_within<
     ensures failure { out.new.has_failed ≡ (out.old.has_failed || is_unwritten_run result) }
 {
     let Texts { catalogue, script } = read_texts(alloc, fed, script, ambassadors.len())?;
-    let Ok(rti) = open_rti::<L, B, F, &R>(alloc, rt, blank, opened, history_limit) else {
+    let Ok(rti) = open_rti::<L, B, H, &R>(alloc, rt, blank, opened, history_limit) else {
         return Err(RunFault::Memory);
     };
     tell_in_order(

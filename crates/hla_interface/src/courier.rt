@@ -12,7 +12,7 @@ use crate::answers::{announced_in, carried_in};
 use hla_base::{ExecutionName, Fault, FederateNo, Ticks};
 use hla_callbacks::FederateAmbassador;
 use hla_callers::{Left, Locked, Seat};
-use hla_execution::Execution;
+use hla_history::History;
 use hla_machine::{Carried, Step};
 use hla_monitor::{Naming, Publisher, Told};
 use std::alloc::Global;
@@ -22,13 +22,13 @@ use std::sync::{Arc, Mutex, Wait};
 
 /// A caller that moves what is on the wires between federates (this profile). It may be moved to a thread of its own.
 /// Contracts see the caller with its transcript, all of whose records are of announcements and carries.
-pub struct Courier<L: Ledger + Naming, B: FederateAmbassador, W: Publisher<L>, F: Execution> {
+pub struct Courier<L: Ledger + Naming, B: FederateAmbassador, W: Publisher<L>, H: History<L, B>> {
     pub(crate) seat: Seat<L>,
-    pub(crate) shared: Arc<Mutex<Locked<L, B, W, F>>, Global>,
+    pub(crate) shared: Arc<Mutex<Locked<L, B, W, H>>, Global>,
 }
 
-impl<L: Ledger + Naming, B: FederateAmbassador, W: Publisher<L>, F: Execution> Model
-    for Courier<L, B, W, F> {
+impl<L: Ledger + Naming, B: FederateAmbassador, W: Publisher<L>, H: History<L, B>> Model
+    for Courier<L, B, W, H> {
     ghost use Rattle.std.specs.List.{All};
     ghost use Rattle.hla_callers.specs.Callers.{Caller};
     ghost use Rattle.hla_interface.specs.Exchanges.{IsExchange};
@@ -40,14 +40,19 @@ impl<L: Ledger + Naming, B: FederateAmbassador, W: Publisher<L>, F: Execution> M
     ghost invariant = { λ c. All IsExchange c.seat.transcript };
 }
 
-impl<L: Ledger + Naming, B: FederateAmbassador, W: Publisher<L>, F: Execution> Drop
-    for Courier<L, B, W, F> {
+impl<L: Ledger + Naming, B: FederateAmbassador, W: Publisher<L>, H: History<L, B>> Drop
+    for Courier<L, B, W, H> {
     fn drop(self) {
         let Courier { seat: _, shared: _ } = self;
     }
 }
 
-impl<L: Ledger + Naming, B: FederateAmbassador, W: Publisher<L>, F: Execution> Courier<L, B, W, F> {
+impl<L: Ledger + Naming, B: FederateAmbassador, W: Publisher<L>, H: History<L, B>> Courier<
+    L,
+    B,
+    W,
+    H,
+> {
     /// Takes the first message off the wire from one federate to another, and hands it to the second (this profile). Answers
     /// what was there. `FederationExecutionDoesNotExist`; `FederateNotExecutionMember` where the second is
     /// not joined, the first never was, or both are one. `HistoryFull` and `OutOfMemory` without a record, and then nothing

@@ -18,7 +18,7 @@ use crate::answers::{
 use hla_base::{EventHandle, ExecutionName, Fault, FederateNo, List, Ticks};
 use hla_callbacks::{Callback, FederateAmbassador};
 use hla_callers::{Left, Locked, Seat};
-use hla_execution::Execution;
+use hla_history::History;
 use hla_machine::{Answer, ResignAction, Service, Step};
 use hla_monitor::{Naming, Publisher, Told};
 use std::alloc::Global;
@@ -28,15 +28,15 @@ use std::sync::{Arc, Mutex, Wait};
 
 /// A federate that has joined an execution: its calls are the services of HLA 1.3. It may be moved to a thread of its own.
 /// Contracts see the execution, the number of the federate in it, and the caller with its transcript.
-pub struct Federate<L: Ledger + Naming, B: FederateAmbassador, W: Publisher<L>, F: Execution> {
+pub struct Federate<L: Ledger + Naming, B: FederateAmbassador, W: Publisher<L>, H: History<L, B>> {
     pub(crate) seat: Seat<L>,
-    pub(crate) shared: Arc<Mutex<Locked<L, B, W, F>>, Global>,
+    pub(crate) shared: Arc<Mutex<Locked<L, B, W, H>>, Global>,
     pub(crate) execution: ExecutionName,
     pub(crate) federate: FederateNo,
 }
 
-impl<L: Ledger + Naming, B: FederateAmbassador, W: Publisher<L>, F: Execution> Model
-    for Federate<L, B, W, F> {
+impl<L: Ledger + Naming, B: FederateAmbassador, W: Publisher<L>, H: History<L, B>> Model
+    for Federate<L, B, W, H> {
     ghost use Rattle.hla_callers.specs.Callers.{FederateCaller};
 
     ghost Value = { FederateCaller };
@@ -45,8 +45,8 @@ impl<L: Ledger + Naming, B: FederateAmbassador, W: Publisher<L>, F: Execution> M
         record { execution = f.execution; federate = f.federate; caller = f.seat } };
 }
 
-impl<L: Ledger + Naming, B: FederateAmbassador, W: Publisher<L>, F: Execution> Drop
-    for Federate<L, B, W, F> {
+impl<L: Ledger + Naming, B: FederateAmbassador, W: Publisher<L>, H: History<L, B>> Drop
+    for Federate<L, B, W, H> {
     fn drop(self) {
         let Federate {
             seat: _,
@@ -57,11 +57,11 @@ impl<L: Ledger + Naming, B: FederateAmbassador, W: Publisher<L>, F: Execution> D
     }
 }
 
-impl<L: Ledger + Naming, B: FederateAmbassador, W: Publisher<L>, F: Execution> Federate<
+impl<L: Ledger + Naming, B: FederateAmbassador, W: Publisher<L>, H: History<L, B>> Federate<
     L,
     B,
     W,
-    F,
+    H,
 > {
     /// Calls a service that is given as a value, for programs that read from a text what a federate does; each service has
     /// a call of its own name, too. Resign is not called so, since the federate goes then. The faults are those of the service.
@@ -174,7 +174,7 @@ impl<L: Ledger + Naming, B: FederateAmbassador, W: Publisher<L>, F: Execution> F
         mut self,
         rt: &impl Wait,
         action: ResignAction,
-    ) -> Result<Left<L, B>, (Fault, Federate<L, B, W, F>)>
+    ) -> Result<Left<L, B>, (Fault, Federate<L, B, W, H>)>
         ensures resigned { IfOk result (λ l. HasResigned self.caller self.execution
             (act.Step (step.Call self.federate (service.Resign action))) l.caller) }
         ensures ambassador { IfOk result (λ l. is_some l.heard ≡ true) }

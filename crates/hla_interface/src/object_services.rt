@@ -9,7 +9,7 @@ use crate::federate::Federate;
 use hla_base::{AttributeNo, ClassNo, EventHandle, Fault, HandleValuePair, List, ObjectNo, Ticks};
 use hla_callbacks::FederateAmbassador;
 use hla_catalogue::Order;
-use hla_execution::Execution;
+use hla_history::History;
 use hla_machine::Service;
 use hla_monitor::{Naming, Publisher};
 use std::sync::Wait;
@@ -18,11 +18,11 @@ use std::sync::ledger::Ledger;
 /// Besides the faults that are told at each call: `FederationExecutionDoesNotExist` and `FederateNotExecutionMember` come before
 /// all others where the execution or the federate is no longer there; `HistoryFull` and `OutOfMemory` come without a record,
 /// and then nothing has changed. Of any other fault there is a record, and nothing else has changed.
-impl<L: Ledger + Naming, B: FederateAmbassador, W: Publisher<L>, F: Execution> Federate<
+impl<L: Ledger + Naming, B: FederateAmbassador, W: Publisher<L>, H: History<L, B>> Federate<
     L,
     B,
     W,
-    F,
+    H,
 > {
     /// Publish Object Class (HLA 1.3, declaration management): from now on the federate may register objects of this class
     /// and update these attributes of them, in place of what it published of the class before. `ObjectClassNotDefined`;

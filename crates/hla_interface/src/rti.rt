@@ -19,8 +19,7 @@ use crate::federate::Federate;
 use hla_base::{ExecutionName, Fault, List, MAX_CALLERS, MAX_COURIERS, MAX_HISTORY_LIMIT};
 use hla_callbacks::FederateAmbassador;
 use hla_callers::{CloseFault, Closed, Left, Locked, Seat, Unsettled, all_here};
-use hla_execution::Execution;
-use hla_history::Shared;
+use hla_history::History;
 use hla_monitor::{Board, Monitor, Naming, Opened, Published, Publisher, Told, open_board};
 use std::alloc::Global;
 use std::marker::Model;
@@ -29,18 +28,18 @@ use std::sync::{Arc, Mutex, Wait};
 
 /// The run-time infrastructure: executions, their federates' ambassadors and one history behind one lock, and a caller of its
 /// own, which creates and destroys executions. Contracts see how many callers it has handed out, and that caller.
-pub struct Rti<L: Ledger + Naming, B: FederateAmbassador, W: Publisher<L>, F: Execution> {
+pub struct Rti<L: Ledger + Naming, B: FederateAmbassador, W: Publisher<L>, H: History<L, B>> {
     pub(crate) seat: Seat<L>,
     /// The parts of the ledger for callers to come.
     pub(crate) rest: Share<L>,
     pub(crate) handed: u32,
     pub(crate) couriers: u32,
-    pub(crate) shared: Arc<Mutex<Locked<L, B, W, F>>, Global>,
+    pub(crate) shared: Arc<Mutex<Locked<L, B, W, H>>, Global>,
     pub(crate) alloc: Global,
 }
 
-impl<L: Ledger + Naming, B: FederateAmbassador, W: Publisher<L>, F: Execution> Model
-    for Rti<L, B, W, F> {
+impl<L: Ledger + Naming, B: FederateAmbassador, W: Publisher<L>, H: History<L, B>> Model
+    for Rti<L, B, W, H> {
     ghost use Rattle.std.specs.Prelude.{◌≡◌, ◌+◌};
     ghost use Rattle.hla_base.specs.Limits.{max_callers};
     ghost use Rattle.hla_callers.specs.Callers.{Office};
@@ -55,8 +54,8 @@ impl<L: Ledger + Naming, B: FederateAmbassador, W: Publisher<L>, F: Execution> M
 
 /// By name and not derived, so that it is proved here alone how all that lies behind the lock is let go, and not by each crate that
 /// owns an infrastructure; so are a federate and a courier.
-impl<L: Ledger + Naming, B: FederateAmbassador, W: Publisher<L>, F: Execution> Drop
-    for Rti<L, B, W, F> {
+impl<L: Ledger + Naming, B: FederateAmbassador, W: Publisher<L>, H: History<L, B>> Drop
+    for Rti<L, B, W, H> {
     fn drop(self) {
         let Rti {
             seat: _,
@@ -69,7 +68,7 @@ impl<L: Ledger + Naming, B: FederateAmbassador, W: Publisher<L>, F: Execution> D
     }
 }
 
-impl<L: Ledger + Naming, B: FederateAmbassador, W: Publisher<L>, F: Execution> Rti<L, B, W, F> {
+impl<L: Ledger + Naming, B: FederateAmbassador, W: Publisher<L>, H: History<L, B>> Rti<L, B, W, H> {
     /// No execution, and room for a history of `history_limit` records. `blank` is a ledger of one part for each caller that
     /// there may be: the infrastructure itself and `MAX_CALLERS`. `board` is what monitors are shown, of an empty history.
     /// `LimitReached` where the limit is above `MAX_HISTORY_LIMIT`; `OutOfMemory` where the room was refused.
@@ -78,7 +77,7 @@ impl<L: Ledger + Naming, B: FederateAmbassador, W: Publisher<L>, F: Execution> R
         blank: Blank,
         board: Board<L, W>,
         history_limit: usize,
-    ) -> Result<Rti<L, B, W, F>, Fault>
+    ) -> Result<Rti<L, B, W, H>, Fault>
         requires name { blank.name ≡ L.name }
         requires parts { blank.parts ≡ L.parts }
         requires all { blank.parts ≡ ledger_parts }
@@ -96,7 +95,7 @@ impl<L: Ledger + Naming, B: FederateAmbassador, W: Publisher<L>, F: Execution> R
         }
         let (book, mut rest) = blank.open::<L>();
         let share = rest.split_off(1, 0);
-        let Ok(shared) = Shared::new(alloc, book, history_limit) else {
+        let Ok(shared) = H::new(alloc, book, history_limit) else {
             drop(board);
             return Err(Fault::OutOfMemory);
         };
@@ -141,7 +140,7 @@ impl<L: Ledger + Naming, B: FederateAmbassador, W: Publisher<L>, F: Execution> R
 
     /// A courier, which carries messages over the wires between federates. `LimitReached` where `MAX_COURIERS` were handed
     /// out, or `MAX_CALLERS` callers in all; `OutOfMemory` where a growth was refused. A fault has changed nothing.
-    pub fn courier(&mut self) -> Result<Courier<L, B, W, F>, Fault>
+    pub fn courier(&mut self) -> Result<Courier<L, B, W, H>, Fault>
         ensures courier { IfOk result (λ c. c ≡ new_caller self.new.handed) }
         ensures handed { MatchResult result (λ _. self.new.handed ≡ self.old.handed + 1)
             (λ _. self.new.handed ≡ self.old.handed) }
@@ -204,7 +203,7 @@ impl<L: Ledger + Naming, B: FederateAmbassador, W: Publisher<L>, F: Execution> R
         name: List<u8>,
         execution: ExecutionName,
         ambassador: B,
-    ) -> Result<Federate<L, B, W, F>, (Fault, B)>
+    ) -> Result<Federate<L, B, W, H>, (Fault, B)>
         requires { B.heard ambassador ≡ [] }
         ensures joined { IfOk result
             (λ f. HasActed self.old.own execution (act.Step (step.Join name))
@@ -259,7 +258,7 @@ impl<L: Ledger + Naming, B: FederateAmbassador, W: Publisher<L>, F: Execution> R
         self,
         rt: &impl Wait,
         lefts: Vec<Left<L, B>>,
-    ) -> Result<Closed, NotClosed<L, B, W, F>>
+    ) -> Result<Closed, NotClosed<L, B, W, H>>
         requires { L.parts ≡ ledger_parts }
         ensures agree { IfOk result (λ c. AllAgree c lefts.items self.own) }
         ensures known { IfOk result (λ c. AllKnown c lefts.items self.own) }
@@ -322,13 +321,13 @@ impl<L: Ledger + Naming, B: FederateAmbassador, W: Publisher<L>, F: Execution> R
 /// The infrastructure with monitors that are read without a lock, as `Rti::new` makes it over the board of `open_board`.
 /// Publishing waits by the handle `R`. `LimitReached` where the limit is above `MAX_HISTORY_LIMIT`; `OutOfMemory` where a
 /// growth was refused.
-pub fn open_rti<L: Ledger + Naming, B: FederateAmbassador, F: Execution, R: Wait + Drop>(
+pub fn open_rti<L: Ledger + Naming, B: FederateAmbassador, H: History<L, B>, R: Wait + Drop>(
     alloc: Global,
     rt: R,
     blank: Blank,
     opened: Opened,
     history_limit: usize,
-) -> Result<Rti<L, B, Published<L, R>, F>, Fault>
+) -> Result<Rti<L, B, Published<L, R>, H>, Fault>
     requires name { blank.name ≡ L.name }
     requires parts { blank.parts ≡ L.parts }
     requires all { blank.parts ≡ ledger_parts }

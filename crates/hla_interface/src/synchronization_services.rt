@@ -6,7 +6,7 @@ ghost use Rattle.hla_callers.specs.Callers.{IsServed, nothing, said};
 use crate::federate::Federate;
 use hla_base::{Fault, List};
 use hla_callbacks::FederateAmbassador;
-use hla_execution::Execution;
+use hla_history::History;
 use hla_machine::Service;
 use hla_monitor::{Naming, Publisher};
 use std::sync::Wait;
@@ -15,11 +15,11 @@ use std::sync::ledger::Ledger;
 /// Besides the faults that are told at each call: `FederationExecutionDoesNotExist` and `FederateNotExecutionMember` come before
 /// all others where the execution or the federate is no longer there; `HistoryFull` and `OutOfMemory` come without a record,
 /// and then nothing has changed. Of any other fault there is a record, and nothing else has changed.
-impl<L: Ledger + Naming, B: FederateAmbassador, W: Publisher<L>, F: Execution> Federate<
+impl<L: Ledger + Naming, B: FederateAmbassador, W: Publisher<L>, H: History<L, B>> Federate<
     L,
     B,
     W,
-    F,
+    H,
 > {
     /// Register Federation Synchronization Point (HLA 1.3, federation management): a point of this label opens, its members are
     /// all who are joined, and each is told so at a tick, the federate first that it has registered the point. Where one of the

@@ -7,7 +7,7 @@ ghost use Rattle.hla_callers.specs.Callers.{IsServed, said, nothing};
 use crate::federate::Federate;
 use hla_base::{Fault, Ticks};
 use hla_callbacks::FederateAmbassador;
-use hla_execution::Execution;
+use hla_history::History;
 use hla_machine::Service;
 use hla_monitor::{Naming, Publisher};
 use std::sync::Wait;
@@ -16,11 +16,11 @@ use std::sync::ledger::Ledger;
 /// Besides the faults that are told at each call: `FederationExecutionDoesNotExist` and `FederateNotExecutionMember` come before
 /// all others where the execution or the federate is no longer there; `HistoryFull` and `OutOfMemory` come without a record,
 /// and then nothing has changed. Of any other fault there is a record, and nothing else has changed.
-impl<L: Ledger + Naming, B: FederateAmbassador, W: Publisher<L>, F: Execution> Federate<
+impl<L: Ledger + Naming, B: FederateAmbassador, W: Publisher<L>, H: History<L, B>> Federate<
     L,
     B,
     W,
-    F,
+    H,
 > {
     /// Enable Time Regulation (HLA 1.3, time management), from this time on and with this lookahead, in ticks; a later tick
     /// gives the callback that it is enabled. `TimeAdvanceAlreadyInProgress`; `TimeRegulationAlreadyEnabled`;

@@ -4,12 +4,12 @@ use Rattle.hla_base.specs.declared.content.Event.{Event}
 use Rattle.hla_base.specs.declared.row.AdvanceRequest.{AdvanceRequest}
 use Rattle.hla_base.specs.declared.row.TimeRow.{TimeRow}
 use Rattle.hla_base.specs.Rows.{is_flush, is_pending, is_constrained, grant_time}
-use Rattle.hla_order_queues.specs.declared.control.Control.{Control}
-use Rattle.hla_order_queues.specs.Queues.{first_stamp}
-use Rattle.hla_local.specs.LocalValue.{LocalValue}
-use Rattle.hla_local.specs.declared.picked.NextPick.TheVariants as next
-use Rattle.hla_local.specs.declared.picked.Picked.TheVariants as picked
-use Rattle.hla_local.specs.Picking.{Pick, NoPick, PickControl, PickRo, PickRegulates, PickConstrains, PickTso, PickGrant, pick, ro_pick, role_pick, advance_pick, tso_pick, grant_pick, is_picked, is_reached, is_held_back, flush_time, picked_by, next_pick_by, local_pick, least_bound}
+use Rattle.hla_component_rules.specs.declared.control.Control.{Control}
+use Rattle.hla_component_rules.specs.Queues.{first_stamp}
+use Rattle.hla_component_rules.specs.LocalValue.{LocalValue}
+use Rattle.hla_component_rules.specs.declared.picked.NextPick.TheVariants as next
+use Rattle.hla_component_rules.specs.declared.picked.Picked.TheVariants as picked
+use Rattle.hla_component_rules.specs.Picking.{Pick, NoPick, PickControl, PickRo, PickRegulates, PickConstrains, PickTso, PickGrant, pick, ro_pick, role_pick, advance_pick, tso_pick, grant_pick, is_picked, is_reached, is_held_back, flush_time, picked_by, next_pick_by, local_pick, least_bound}
 
 -- what is picked up stands first in its queue
 abbrev StandsFirst : List Control → List Event → List Event → Pick → Type 0

@@ -4,11 +4,11 @@ use Rattle.hla_base.specs.declared.content.Event.{Event}
 use Rattle.hla_base.specs.Tables.{or_else}
 use Rattle.hla_base.specs.Rows.{is_none_of}
 use Rattle.hla_null_message.specs.declared.message.Message.TheVariants as message
-use Rattle.hla_order_queues.specs.declared.control.Control.{Control}
-use Rattle.hla_order_queues.specs.Queues.{find_event, remove_event}
+use Rattle.hla_component_rules.specs.declared.control.Control.{Control}
+use Rattle.hla_component_rules.specs.Queues.{find_event, remove_event}
 use Rattle.hla_order_queues.proofs.Events.EventLemmas.{remove_event_missed}
-use Rattle.hla_local.specs.LocalValue.{LocalValue}
-use Rattle.hla_local.specs.Arriving.{MayCome, local_accepting}
+use Rattle.hla_component_rules.specs.LocalValue.{LocalValue}
+use Rattle.hla_component_rules.specs.Arriving.{MayCome, local_accepting}
 
 none_at : (o : Option Event) → is_some o ≡ false → o ≡ None
 none_at None h = refl

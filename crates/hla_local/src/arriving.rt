@@ -4,7 +4,7 @@ ghost use Rattle.std.specs.Prelude.{◌≡◌, ◌≤◌, ◌<◌, true, OnOk, O
 ghost use Rattle.hla_base.specs.Limits.{max_joins};
 ghost use Rattle.hla_null_message.specs.declared.message.Message.TheVariants as message;
 ghost use Rattle.hla_lbts.specs.Peers.{peers_of};
-ghost use Rattle.hla_local.specs.Arriving.{local_accepting, peers_accepting, MayCome, message_takes_memory};
+ghost use Rattle.hla_component_rules.specs.Arriving.{local_accepting, peers_accepting, MayCome, message_takes_memory};
 
 use crate::local::Local;
 use hla_base::{Discovery, EventHandle, FederateNo, Plain, Serial, SharedEvent};

@@ -4,14 +4,14 @@ ghost use Rattle.std.specs.Prelude.{◌≡◌, ◌<◌, ◌≤◌, true, IfOk, I
 ghost use Rattle.hla_base.specs.declared.fault.Fault.TheVariants.{OutOfMemory};
 ghost use Rattle.hla_base.specs.Limits.{max_time};
 ghost use Rattle.hla_base.specs.Tables.{forever};
-ghost use Rattle.hla_order_queues.specs.Queues.{handles_of};
-ghost use Rattle.hla_local.specs.declared.picked.Picked.TheVariants as picked;
-ghost use Rattle.hla_local.specs.Picking.{next_pick_by, local_pick, least_bound, role_pick, advance_pick, grant_pick, is_below, picked_by, copies_content};
+ghost use Rattle.hla_component_rules.specs.Queues.{handles_of};
+ghost use Rattle.hla_component_rules.specs.declared.picked.Picked.TheVariants as picked;
+ghost use Rattle.hla_component_rules.specs.Picking.{next_pick_by, local_pick, least_bound, role_pick, advance_pick, grant_pick, is_below, picked_by, copies_content};
 
 use crate::local::Local;
-use crate::picked::{NextPick, Picked};
 use crate::picking::{flush_time, grant_time, is_picked, is_reached};
 use hla_base::{AdvanceRequest, Event, EventHandle, Fault, Plain, Ticks};
+use hla_component_rules::{NextPick, Picked};
 use hla_order_queues::Control;
 use std::alloc::Global;
 

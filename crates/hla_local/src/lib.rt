@@ -4,9 +4,8 @@
 mod arriving;
 mod foreseeing;
 mod local;
-mod picked;
 mod picking;
 mod telling;
 
+pub use hla_component_rules::{NextPick, Picked};
 pub use local::Local;
-pub use picked::{NextPick, Picked};

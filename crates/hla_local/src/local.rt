@@ -7,9 +7,9 @@ ghost use Rattle.hla_base.specs.Rows.{is_constrained, row_after_request, row_wit
 ghost use Rattle.hla_base.specs.declared.fault.Fault.TheVariants.{OutOfMemory};
 ghost use Rattle.hla_base.specs.declared.row.Role.TheVariants.{Disabled, Pending};
 ghost use Rattle.hla_lbts.specs.Peers.{peers_of};
-ghost use Rattle.hla_local.specs.LocalValue.{new_local, no_peers, resigned_local};
-ghost use Rattle.hla_local.specs.Picking.{least_bound};
-ghost use Rattle.hla_local.specs.Promising.{promise_of, least_waiting, entry_for};
+ghost use Rattle.hla_component_rules.specs.LocalValue.{new_local, no_peers, resigned_local};
+ghost use Rattle.hla_component_rules.specs.Picking.{least_bound};
+ghost use Rattle.hla_component_rules.specs.Promising.{promise_of, least_waiting, entry_for};
 
 use hla_base::{AdvanceKind, FOREVER, Fault, FederateNo, Ticks};
 use hla_lbts::Peers;
@@ -34,7 +34,7 @@ pub struct Local {
 }
 
 impl Model for Local {
-    ghost use Rattle.hla_local.specs.LocalValue.{LocalValue};
+    ghost use Rattle.hla_component_rules.specs.LocalValue.{LocalValue};
 
     ghost Value = { LocalValue };
 

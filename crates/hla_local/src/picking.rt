@@ -4,11 +4,11 @@ ghost use Rattle.std.specs.Prelude.{◌≡◌, ◌≤◌, IfOk, OnOk, OnErr, IfE
 ghost use Rattle.hla_base.specs.declared.fault.Fault.TheVariants.{OutOfMemory};
 ghost use Rattle.hla_base.specs.Limits.{max_time};
 ghost use Rattle.hla_base.specs.Rows.{grant_time, RowNumbers};
-ghost use Rattle.hla_local.specs.Picking.{PickConstrains, picked_by, local_picking, local_pick, least_bound, role_pick, advance_pick, tso_pick, grant_pick, is_held_back, is_picked, is_reached, is_first_fit, flush_time};
+ghost use Rattle.hla_component_rules.specs.Picking.{PickConstrains, picked_by, local_picking, local_pick, least_bound, role_pick, advance_pick, tso_pick, grant_pick, is_held_back, is_picked, is_reached, is_first_fit, flush_time};
 
 use crate::local::Local;
-use crate::picked::Picked;
 use hla_base::{AdvanceKind, AdvanceRequest, Fault, Role, Ticks, TimeRow};
+use hla_component_rules::Picked;
 
 impl Local {
     /// The federate picks up the first that there is: a control; a message in receive order, unless it is constrained and

@@ -2,8 +2,8 @@
 
 ghost use Rattle.std.specs.Prelude.{◌≡◌, ◌++◌, ◌-◌, map, IfErr, OnOk, OnErr};
 ghost use Rattle.hla_base.specs.declared.fault.Fault.TheVariants.{OutOfMemory};
-ghost use Rattle.hla_order_queues.specs.declared.control.Control.TheVariants.{ToTell};
-ghost use Rattle.hla_local.specs.Telling.{local_told, local_untold};
+ghost use Rattle.hla_component_rules.specs.declared.control.Control.TheVariants.{ToTell};
+ghost use Rattle.hla_component_rules.specs.Telling.{local_told, local_untold};
 
 use crate::local::Local;
 use hla_base::{Fault, Notice, Plain};

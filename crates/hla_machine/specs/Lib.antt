@@ -1,5 +1,7 @@
 -- Who joined, declarations, objects, receivers
 pub mod Directory
+-- Its objects as a list by number: what contracts see of a registry
+pub mod Registered
 -- The state, and the bounds
 pub mod Central
 -- What a send does

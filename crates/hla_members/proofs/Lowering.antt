@@ -7,7 +7,7 @@ use Rattle.hla_base.specs.Tables.{upd, is_other}
 use Rattle.hla_base.proofs.Tables.{upd_each}
 use Rattle.hla_lbts.specs.declared.row.PeerRow.{PeerRow}
 use Rattle.hla_lbts.specs.Peers.{PeersValue, peers_of}
-use Rattle.hla_local.specs.LocalValue.{LocalValue}
+use Rattle.hla_component_rules.specs.LocalValue.{LocalValue}
 use Rattle.hla_members.specs.Changes.{peers_lowered}
 use Rattle.hla_execution.specs.MemberValue.{MemberTables}
 use Rattle.hla_members.specs.Members.{with_component}

@@ -12,7 +12,7 @@ use Rattle.hla_retraction.specs.SentRows.{sent_of}
 use Rattle.hla_retraction.specs.declared.sent.SentRow.{SentRow}
 use Rattle.hla_members.specs.declared.note.Note.{Note}
 use Rattle.hla_members.specs.Noting.{noted_event, with_noted}
-use Rattle.hla_local.specs.LocalValue.{LocalValue, new_local, resigned_local}
+use Rattle.hla_component_rules.specs.LocalValue.{LocalValue, new_local, resigned_local}
 use Rattle.hla_execution.specs.MemberValue.{item, MemberValue, no_member, MemberTables, members_of}
 use Rattle.hla_members.specs.Members.{new_member, resigned_member, AreQuiet, with_member_admitted, with_member_withdrawn, with_component}
 

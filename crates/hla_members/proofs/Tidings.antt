@@ -9,10 +9,10 @@ use Rattle.std.proofs.lemmas.List.{length-map}
 use Rattle.hla_base.specs.declared.fault.Fault.{Fault}
 use Rattle.hla_base.specs.declared.notice.Notice.{Notice}
 use Rattle.hla_base.specs.Tables.{upd, is_other}
-use Rattle.hla_order_queues.specs.declared.control.Control.{Control}
-use Rattle.hla_order_queues.specs.declared.control.Control.TheVariants.{ToTell}
-use Rattle.hla_local.specs.LocalValue.{LocalValue}
-use Rattle.hla_local.specs.Telling.{local_told, local_untold}
+use Rattle.hla_component_rules.specs.declared.control.Control.{Control}
+use Rattle.hla_component_rules.specs.declared.control.Control.TheVariants.{ToTell}
+use Rattle.hla_component_rules.specs.LocalValue.{LocalValue}
+use Rattle.hla_component_rules.specs.Telling.{local_told, local_untold}
 use Rattle.hla_retraction.specs.SentRows.{sent_of}
 use Rattle.hla_execution.specs.MemberValue.{item, MemberValue, no_member, members_of}
 use Rattle.hla_members.specs.Rooms.{RoomyMember}

@@ -5,8 +5,8 @@ use Rattle.hla_base.specs.declared.row.Role.TheVariants.{Disabled, Pending}
 use Rattle.hla_base.specs.Rows.{is_constrained, bar_of, row_after_request, row_with_entry}
 use Rattle.hla_base.specs.Tables.{forever, upd, is_other}
 use Rattle.hla_lbts.specs.Peers.{PeersValue, peers_of}
-use Rattle.hla_local.specs.LocalValue.{LocalValue}
-use Rattle.hla_local.specs.Promising.{entry_for}
+use Rattle.hla_component_rules.specs.LocalValue.{LocalValue}
+use Rattle.hla_component_rules.specs.Promising.{entry_for}
 use Rattle.hla_members.specs.declared.change.Change.{Change}
 use Rattle.hla_members.specs.declared.change.Change.TheVariants as change
 

@@ -8,8 +8,8 @@ use Rattle.hla_null_message.specs.declared.message.Message.TheVariants as messag
 use Rattle.hla_null_message.specs.Wires.{put_behind, put_all_behind}
 use Rattle.hla_machine.specs.declared.step.Carried.{Carried}
 use Rattle.hla_machine.specs.declared.step.Carried.TheVariants as carried
-use Rattle.hla_local.specs.LocalValue.{LocalValue, new_local, resigned_local}
-use Rattle.hla_local.specs.Arriving.{MayCome, message_takes_memory, local_accepting, peers_accepting}
+use Rattle.hla_component_rules.specs.LocalValue.{LocalValue, new_local, resigned_local}
+use Rattle.hla_component_rules.specs.Arriving.{MayCome, message_takes_memory, local_accepting, peers_accepting}
 use Rattle.hla_components.specs.Locals.{carried_by}
 use Rattle.hla_execution.specs.MemberValue.{MemberValue, MemberTables, item}
 use Rattle.hla_members.specs.declared.direction.Direction.{Direction}

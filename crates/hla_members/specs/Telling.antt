@@ -1,7 +1,7 @@
 -- What the joined federates are to be told of synchronization points
 use Rattle.std.specs.Prelude.{ℕ, cond, List, []}
 use Rattle.hla_base.specs.declared.notice.Notice.{Notice}
-use Rattle.hla_local.specs.Telling.{local_told, local_untold}
+use Rattle.hla_component_rules.specs.Telling.{local_told, local_untold}
 use Rattle.hla_members.specs.Rooms.{RoomyMember}
 use Rattle.hla_execution.specs.MemberValue.{MemberTables, no_member}
 use Rattle.hla_members.specs.Members.{with_component}

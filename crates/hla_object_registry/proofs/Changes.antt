@@ -7,7 +7,7 @@ use Rattle.hla_base.specs.Tables.{upd, upd2}
 use Rattle.hla_catalogue.specs.declared.declared.Order.{Order}
 use Rattle.hla_orders.specs.Orders.{order_at}
 use Rattle.hla_machine.specs.Directory.{Object}
-use Rattle.hla_object_registry.specs.Registered.{Registered, RegistryValue, unregistered_object, item_at, is_in, registry_of}
+use Rattle.hla_machine.specs.Registered.{Registered, RegistryValue, unregistered_object, item_at, is_in, registry_of}
 use Rattle.hla_object_registry.specs.Queries.{without_owned}
 use Rattle.hla_object_registry.proofs.Items.{upd_same, upd_other, upd2_row, upd2_other, by_number, item-set, item-append, item-none, is_in-nothing}
 

@@ -3,7 +3,7 @@ use Rattle.std.proofs.Common.{◌≡◌, ℕ, List, refl}
 use Rattle.hla_machine.specs.Directory as directory
 use Rattle.hla_machine.specs.Directory.{Directory}
 use Rattle.hla_machine.specs.Refusals as refusals
-use Rattle.hla_object_registry.specs.Registered.{RegistryValue}
+use Rattle.hla_machine.specs.Registered.{RegistryValue}
 use Rattle.hla_object_registry.specs.Queries.{is_name_used_in, is_known_in, is_owned_in, objects_owned, without_owned}
 
 -- the tables of a directory that a registry keeps

@@ -6,7 +6,7 @@ use Rattle.std.specs.Map.{values_of}
 use Rattle.hla_base.specs.Tables.{upd, upd2}
 use Rattle.hla_catalogue.specs.declared.declared.Order.{Order}
 use Rattle.hla_orders.specs.Orders.{order_at}
-use Rattle.hla_object_registry.specs.Registered.{Registered, unregistered_object, item_at, is_in, registry_of}
+use Rattle.hla_machine.specs.Registered.{Registered, unregistered_object, item_at, is_in, registry_of}
 use Rattle.hla_object_registry.proofs.Items.{item_numbered_within}
 use Rattle.hla_object_registry.proofs.Changes.{one_more, one_known, one_changed, one_reordered, IsWithdrawn, object_after_withdrawal, one_withdrawn}
 use Rattle.std.specs.Option.{option_map}

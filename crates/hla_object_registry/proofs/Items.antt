@@ -10,7 +10,7 @@ use Rattle.std.proofs.lemmas.Option.{unwrap_or-slice_get}
 use Rattle.std.proofs.Math.Path.{fun_ext}
 use Rattle.hla_base.specs.Tables.{upd, upd2}
 use Rattle.hla_catalogue.specs.Lookup.{item_numbered}
-use Rattle.hla_object_registry.specs.Registered.{item_at, is_in}
+use Rattle.hla_machine.specs.Registered.{item_at, is_in}
 
 pub upd_same : {X : Type 0} (t : ℕ → X) (i : ℕ) (x : X) → upd t i x i ≡ x
 unfolding upd

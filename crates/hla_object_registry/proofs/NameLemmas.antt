@@ -13,7 +13,7 @@ use Rattle.std.proofs.lemmas.Map.Keys.{apart_from_distinct}
 use Rattle.std.proofs.lemmas.Slice.Eq.{bytes_eq-Decides}
 use Rattle.indexmap.specs.IndexMap.{insert_entry}
 use Rattle.hla_object_registry.specs.declared.entry.Entry.{Entry}
-use Rattle.hla_object_registry.specs.Registered.{Registered, unregistered_object, item_at, registry_of}
+use Rattle.hla_machine.specs.Registered.{Registered, unregistered_object, item_at, registry_of}
 use Rattle.hla_object_registry.specs.Queries.{is_name_used_in, is_known_in, object_found}
 use Rattle.hla_object_registry.specs.Entries.{registered_objects, name_at, IsUnused, IsNumberOf}
 use Rattle.hla_object_registry.proofs.Items.{item-suc}

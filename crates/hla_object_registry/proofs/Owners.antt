@@ -3,7 +3,7 @@ use Rattle.std.proofs.Common.{◌≡◌, ◌≢◌, ℕ, ◌+◌, ◌<◌, List,
 use Rattle.std.proofs.lemmas.Bool.{cases_eq}
 use Rattle.hla_base.specs.Tables.{upd}
 use Rattle.hla_machine.specs.Directory.{Object}
-use Rattle.hla_object_registry.specs.Registered.{RegistryValue}
+use Rattle.hla_machine.specs.Registered.{RegistryValue}
 use Rattle.hla_object_registry.specs.Entries.{AreOwned}
 use Rattle.hla_object_registry.specs.Queries.{with_registered}
 use Rattle.hla_object_registry.proofs.Items.{upd_same, upd_other}

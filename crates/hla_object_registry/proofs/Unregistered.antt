@@ -1,7 +1,7 @@
 -- What holds of every registry: numbers begin with 1, and nothing is said of numbers that were not given out
 use Rattle.std.proofs.Common.{◌≡◌, ℕ, ◌<◌, ◌≤◌, List, false, refl, ap, ◌∙◌, arith}
 use Rattle.hla_machine.specs.Directory.{no_object}
-use Rattle.hla_object_registry.specs.Registered.{Registered, unregistered_object, is_in, registry_of}
+use Rattle.hla_machine.specs.Registered.{Registered, unregistered_object, is_in, registry_of}
 use Rattle.hla_object_registry.proofs.Items.{item-none, is_in-nothing}
 
 pub next_object_is_positive : (rs : List Registered) → 0 < (registry_of rs).next_object

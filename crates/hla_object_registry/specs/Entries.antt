@@ -4,7 +4,7 @@ use Rattle.std.specs.Str.{bytes_eq}
 use Rattle.std.specs.declared.vec.Vec.{Vec}
 use Rattle.std.specs.declared.alloc.Global.{Global}
 use Rattle.hla_base.specs.Limits.{max_objects}
-use Rattle.hla_object_registry.specs.Registered.{Registered, RegistryValue, unregistered_object, registry_of}
+use Rattle.hla_machine.specs.Registered.{Registered, RegistryValue, unregistered_object, registry_of}
 use Rattle.hla_object_registry.specs.declared.entry.Entry.{Entry}
 
 -- the object of an entry, whose key is its name

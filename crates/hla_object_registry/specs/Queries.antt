@@ -6,7 +6,7 @@ use Rattle.hla_base.specs.Tables.{upd, upd2, numbers_below}
 use Rattle.hla_catalogue.specs.Lookup.{contains_number}
 use Rattle.hla_catalogue.specs.declared.declared.Order.{Order}
 use Rattle.hla_orders.specs.Orders.{orders_given}
-use Rattle.hla_object_registry.specs.Registered.{RegistryValue}
+use Rattle.hla_machine.specs.Registered.{RegistryValue}
 
 -- was the name ever given to an object
 abbrev pub is_name_used_in : RegistryValue → List ℕ → Bool

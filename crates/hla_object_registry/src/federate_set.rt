@@ -3,7 +3,7 @@
 ghost use Rattle.std.specs.Prelude.{◌≡◌, ◌<◌, ◌≤◌, false, true};
 ghost use Rattle.hla_base.specs.Limits.{max_joins};
 ghost use Rattle.hla_base.specs.Tables.{upd};
-ghost use Rattle.hla_object_registry.specs.Registered.{is_in};
+ghost use Rattle.hla_machine.specs.Registered.{is_in};
 
 use hla_base::{FederateNo, MAX_JOINS};
 use std::marker::Model;

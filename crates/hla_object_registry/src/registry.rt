@@ -8,7 +8,7 @@ ghost use Rattle.hla_base.specs.Tables.{upd, upd2};
 ghost use Rattle.hla_base.specs.declared.fault.Fault.TheVariants.{OutOfMemory};
 ghost use Rattle.hla_catalogue.specs.Lookup.{item_numbered};
 ghost use Rattle.hla_orders.specs.Orders.{AreUpTo};
-ghost use Rattle.hla_object_registry.specs.Registered.{registry_of, new_registry};
+ghost use Rattle.hla_machine.specs.Registered.{registry_of, new_registry};
 ghost use Rattle.hla_object_registry.specs.Queries.{is_name_used_in, is_known_in, is_owned_in, is_object_of, objects_owned, object_found, with_registered, with_orders, without_owned};
 ghost use Rattle.hla_object_registry.specs.Entries.{registered_object, IsUnused, IsNumberOf, AreOwned};
 
@@ -31,7 +31,7 @@ pub struct Registry {
 
 impl Model for Registry {
     ghost use Rattle.std.specs.Prelude.{List};
-    ghost use Rattle.hla_object_registry.specs.Registered.{Registered};
+    ghost use Rattle.hla_machine.specs.Registered.{Registered};
 
     ghost Value = { List Registered };
 

@@ -8,7 +8,7 @@ use Rattle.std.specs.Ordering.{nat_cmp, ordering_then}
 use Rattle.hla_base.specs.declared.content.Event.{Event}
 use Rattle.hla_order_queues.specs.declared.key.EventKey.{EventKey}
 use Rattle.hla_order_queues.specs.declared.key.EventName.{EventName}
-use Rattle.hla_order_queues.specs.Queues.{is_before, find_event}
+use Rattle.hla_component_rules.specs.Queues.{is_before, find_event}
 
 abbrev pub key_of : Event → EventKey
 key_of e = record { stamp = e.stamp; sender = e.sender; serial = e.serial }

@@ -5,7 +5,7 @@ use Rattle.std.specs.Result.{OnOk, OnErr}
 use Rattle.slab.specs.Slab.{Slab, get}
 use Rattle.hla_base.specs.declared.content.Event.{Event}
 use Rattle.hla_order_queues.specs.declared.key.EventKey.{EventKey}
-use Rattle.hla_order_queues.specs.Queues.{insert_event}
+use Rattle.hla_component_rules.specs.Queues.{insert_event}
 use Rattle.hla_order_queues.specs.declared.separators.Placed.{Placed}
 use Rattle.hla_order_queues.specs.declared.separators.Placed.TheVariants.{Put, Before, Full, Refused}
 use Rattle.hla_order_queues.specs.Kept.{key_of, block_at, set_block, AreAfter, IsPlace}

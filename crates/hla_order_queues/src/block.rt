@@ -3,7 +3,7 @@
 ghost use Rattle.std.specs.Prelude.{◌/◌, option_map, ◌≡◌, ◌++◌, false, true, ◌<◌, ◌≤◌, [], length, take, drop, slice_get, position, None, IfErr, IfOk, OnOk, OnErr, List, option_copied, vec_len, vec_capacity, ◌+◌};
 ghost use Rattle.std.specs.List.{prefix_len, AllByRecursion};
 ghost use Rattle.hla_base.specs.declared.content.Event.{Event};
-ghost use Rattle.hla_order_queues.specs.Queues.{insert_event, find_event, remove_event, is_event, handles_of};
+ghost use Rattle.hla_component_rules.specs.Queues.{insert_event, find_event, remove_event, is_event, handles_of};
 ghost use Rattle.hla_order_queues.specs.Moving.{is_moved};
 ghost use Rattle.hla_order_queues.specs.Kept.{key_of, is_key_before, IsInOrder};
 

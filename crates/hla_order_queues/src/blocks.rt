@@ -3,7 +3,7 @@
 ghost use Rattle.std.specs.Prelude.{◌/◌, ◌≡◌, ◌++◌, ◌<◌, ◌≤◌, ◌^◌, [], None, Some, true, false, List, length, take, IfErr, OnOk, OnErr, IfSome, MatchOption, option_copied, option_map, slice_get, vec_len, vec_capacity, ◌+◌};
 ghost use Rattle.std.specs.List.{prefix_len, AllByRecursion};
 ghost use Rattle.hla_base.specs.declared.content.Event.{Event as EventValue};
-ghost use Rattle.hla_order_queues.specs.Queues.{insert_event, find_event, remove_event, handles_of};
+ghost use Rattle.hla_component_rules.specs.Queues.{insert_event, find_event, remove_event, handles_of};
 ghost use Rattle.hla_order_queues.specs.Moving.{is_moved};
 ghost use Rattle.hla_order_queues.specs.Kept.{key_of, first_after, separator_after, block_at, without_block, events_of, name_of_key, stamp_of, IsInOrder, IsUnique, AreAfter, AreBelowBlocks, AreSeparatored, AreBlocks, At, IsPlace};
 

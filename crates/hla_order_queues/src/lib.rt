@@ -3,7 +3,6 @@
 
 mod block;
 mod blocks;
-mod control;
 mod key;
 mod names;
 mod ordered;
@@ -12,6 +11,6 @@ mod rising;
 mod separators;
 mod tso;
 
-pub use control::Control;
+pub use hla_component_rules::Control;
 pub use receive::RoQueue;
 pub use tso::TsoQueue;

@@ -2,7 +2,7 @@
 
 ghost use Rattle.std.specs.Prelude.{◌≡◌, ◌++◌, [], None, Some, length, take as list_take, drop, slice_get, IfErr, OnOk, OnErr, option_copied, vec_len, vec_capacity, ◌+◌, ◌≤◌};
 ghost use Rattle.std.specs.List.{prefix_len};
-ghost use Rattle.hla_order_queues.specs.Queues.{insert_event, find_event, remove_event, handles_of};
+ghost use Rattle.hla_component_rules.specs.Queues.{insert_event, find_event, remove_event, handles_of};
 ghost use Rattle.hla_order_queues.specs.Moving.{is_moved, IsRising};
 ghost use Rattle.hla_order_queues.specs.Kept.{events_of, name_of_key, stamp_of, IsInOrder, IsUnique, AreBelowBlocks};
 

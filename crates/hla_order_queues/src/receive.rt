@@ -3,7 +3,7 @@
 ghost use Rattle.std.specs.Prelude.{◌≡◌, ◌++◌, ◌∷◌, ◌<◌, ◌≤◌, ◌-◌, [], List, OnOk, OnErr, IfErr, slice_get, drop, length, position, option_copied};
 ghost use Rattle.hla_base.specs.declared.content.Event.{Event};
 ghost use Rattle.hla_base.specs.declared.fault.Fault.TheVariants.{OutOfMemory};
-ghost use Rattle.hla_order_queues.specs.Queues.{is_event, find_event, remove_event, least_ordered};
+ghost use Rattle.hla_component_rules.specs.Queues.{is_event, find_event, remove_event, least_ordered};
 
 use hla_base::{Event, FOREVER, Fault, FederateNo, Serial, Ticks};
 use std::alloc::Global;
@@ -20,7 +20,7 @@ pub struct RoQueue {
 impl Model for RoQueue {
     ghost use Rattle.std.specs.Prelude.{◌-◌};
     ghost use Rattle.std.specs.VecDeque.{deque_capacity, deque_len};
-    ghost use Rattle.hla_order_queues.specs.Queues.{Queue};
+    ghost use Rattle.hla_component_rules.specs.Queues.{Queue};
 
     ghost Value = { Queue };
 

@@ -4,7 +4,7 @@ ghost use Rattle.std.specs.Prelude.{◌≡◌, ◌++◌, ◌∷◌, ◌^◌, ◌
 ghost use Rattle.std.specs.Bool.{OnTrue, OnFalse};
 ghost use Rattle.std.specs.List.{prefix_len};
 ghost use Rattle.std.specs.BTreeMap.{insert_entry};
-ghost use Rattle.hla_order_queues.specs.Queues.{insert_event, find_event, remove_event, handles_of};
+ghost use Rattle.hla_component_rules.specs.Queues.{insert_event, find_event, remove_event, handles_of};
 ghost use Rattle.hla_order_queues.specs.Moving.{is_moved};
 ghost use Rattle.hla_order_queues.specs.Kept.{key_cmp, block_at, set_block, without_block, events_of, AreAfter, IsInOrder, AreBlocks, IsPlace, IsHalved};
 ghost use Rattle.hla_order_queues.specs.Places.{blocks_at, IsPlaced, IsPutIn};

@@ -3,7 +3,7 @@
 ghost use Rattle.std.specs.Prelude.{◌≡◌, ◌++◌, ◌<◌, [], None, Some, length, drop, slice_get, filter, not, nat_lt, IfErr, IfOk, OnOk, OnErr, MatchBool, IsSome, option_copied};
 ghost use Rattle.std.specs.List.{prefix_len};
 ghost use Rattle.hla_base.specs.declared.fault.Fault.TheVariants.{OutOfMemory};
-ghost use Rattle.hla_order_queues.specs.Queues.{insert_event, find_event, remove_event, first_stamp, handles_of};
+ghost use Rattle.hla_component_rules.specs.Queues.{insert_event, find_event, remove_event, first_stamp, handles_of};
 ghost use Rattle.hla_order_queues.specs.Moving.{is_moved, IsRising};
 
 use crate::key::{EventKey, EventName};

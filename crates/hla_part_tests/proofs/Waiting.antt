@@ -2,7 +2,7 @@
 use Rattle.std.proofs.Common.{◌≡◌, ◌∙◌, ◌&&◌, ℕ, List, [], ◌∷◌, None, Some, Bool, false, cond, eqb, length, refl, ap, subst}
 use Rattle.std.specs.Option.{IsSome}
 use Rattle.std.specs.Prelude.{slice_get}
-use Rattle.hla_order_queues.specs.Queues.{find_event, handles_of}
+use Rattle.hla_component_rules.specs.Queues.{find_event, handles_of}
 use Rattle.hla_base.specs.declared.content.Event.{Event}
 
 -- so no event of this name does

@@ -10,7 +10,7 @@ use crate::watching::{Ran, is_seen};
 use hla_callbacks::FederateAmbassador;
 use hla_catalogue::Catalogue;
 use hla_commands::Line;
-use hla_execution::Execution;
+use hla_history::History;
 use hla_interface::{Closed, Left, NotClosed, Rti};
 use hla_monitor::{Naming, Publisher, Status};
 use hla_outcomes::{Outcomes, RunFault, write_outcomes};
@@ -21,8 +21,8 @@ use std::sync::Wait;
 use std::sync::ledger::Ledger;
 
 /// Why a run did not close. What came back is let go.
-fn close_fault<L: Ledger + Naming, B: FederateAmbassador, P: Publisher<L>, F: Execution>(
-    not_closed: NotClosed<L, B, P, F>,
+fn close_fault<L: Ledger + Naming, B: FederateAmbassador, P: Publisher<L>, H: History<L, B>>(
+    not_closed: NotClosed<L, B, P, H>,
 ) -> RunFault
     ensures { result ≡ RunFault.Close not_closed.fault }
 {
@@ -36,12 +36,12 @@ pub fn close_told<
     L: Ledger + Naming,
     B: FederateAmbassador,
     P: Publisher<L>,
-    F: Execution,
+    H: History<L, B>,
     W: Write,
 >(
     rt: &impl Wait,
     alloc: Global,
-    rti: Rti<L, B, P, F>,
+    rti: Rti<L, B, P, H>,
     lefts: Vec<Left<L, B>>,
     catalogue: &Catalogue,
     lines: &[Line<'_>],
@@ -78,12 +78,12 @@ pub fn close_seen<
     L: Ledger + Naming,
     B: FederateAmbassador,
     P: Publisher<L>,
-    F: Execution,
+    H: History<L, B>,
     W: Write,
 >(
     rt: &impl Wait,
     alloc: Global,
-    rti: Rti<L, B, P, F>,
+    rti: Rti<L, B, P, H>,
     lefts: Vec<Left<L, B>>,
     catalogue: &Catalogue,
     lines: &[Line<'_>],

@@ -9,7 +9,7 @@ use hla_base::Fault;
 use hla_callbacks::FederateAmbassador;
 use hla_catalogue::Catalogue;
 use hla_commands::Call;
-use hla_execution::Execution;
+use hla_history::History;
 use hla_interface::{Federate, Left};
 use hla_machine::{Answer, Outcome, ResignAction, Service};
 use hla_monitor::{Naming, Publisher};
@@ -21,15 +21,15 @@ use std::sync::ledger::Ledger;
 
 /// A federate of a script: joined, or what it left behind when it resigned.
 #[derive(Drop)]
-pub enum Player<L: Ledger + Naming, B: FederateAmbassador, P: Publisher<L>, F: Execution> {
-    Joined(Federate<L, B, P, F>),
+pub enum Player<L: Ledger + Naming, B: FederateAmbassador, P: Publisher<L>, H: History<L, B>> {
+    Joined(Federate<L, B, P, H>),
     Gone(Left<L, B>),
 }
 
 /// A federate of a script, and how the line that it has done came out.
 #[derive(Drop)]
-pub struct Acted<L: Ledger + Naming, B: FederateAmbassador, P: Publisher<L>, F: Execution> {
-    pub player: Player<L, B, P, F>,
+pub struct Acted<L: Ledger + Naming, B: FederateAmbassador, P: Publisher<L>, H: History<L, B>> {
+    pub player: Player<L, B, P, H>,
     pub outcome: Outcome,
 }
 
@@ -57,11 +57,11 @@ impl Deed {
 }
 
 /// Resigns: the federate is gone where it is not refused.
-fn resign<L: Ledger + Naming, B: FederateAmbassador, P: Publisher<L>, F: Execution>(
+fn resign<L: Ledger + Naming, B: FederateAmbassador, P: Publisher<L>, H: History<L, B>>(
     rt: &impl Wait,
-    federate: Federate<L, B, P, F>,
+    federate: Federate<L, B, P, H>,
     action: ResignAction,
-) -> Acted<L, B, P, F>
+) -> Acted<L, B, P, H>
     ensures done { DoesDeed federate (deed.Serve (service.Resign action)) result.outcome
         result.player }
     ensures gone { IsGoneBy (deed.Serve (service.Resign action)) result.outcome result.player }
@@ -79,11 +79,11 @@ fn resign<L: Ledger + Naming, B: FederateAmbassador, P: Publisher<L>, F: Executi
 }
 
 /// Calls a service.
-fn serve<L: Ledger + Naming, B: FederateAmbassador, P: Publisher<L>, F: Execution>(
+fn serve<L: Ledger + Naming, B: FederateAmbassador, P: Publisher<L>, H: History<L, B>>(
     rt: &impl Wait,
-    mut federate: Federate<L, B, P, F>,
+    mut federate: Federate<L, B, P, H>,
     service: Service,
-) -> Acted<L, B, P, F>
+) -> Acted<L, B, P, H>
     ensures done { DoesDeed federate (deed.Serve service) result.outcome result.player }
     ensures gone { IsGoneBy (deed.Serve service) result.outcome result.player }
 {
@@ -100,11 +100,11 @@ fn serve<L: Ledger + Naming, B: FederateAmbassador, P: Publisher<L>, F: Executio
 }
 
 /// Does what a line asks of a joined federate; a tick picks up one callback. It is gone only where it was to resign and did.
-pub fn do_deed<L: Ledger + Naming, B: FederateAmbassador, P: Publisher<L>, F: Execution>(
+pub fn do_deed<L: Ledger + Naming, B: FederateAmbassador, P: Publisher<L>, H: History<L, B>>(
     rt: &impl Wait,
-    mut federate: Federate<L, B, P, F>,
+    mut federate: Federate<L, B, P, H>,
     deed: Deed,
-) -> Acted<L, B, P, F>
+) -> Acted<L, B, P, H>
     ensures done { DoesDeed federate deed result.outcome result.player }
     ensures gone { IsGoneBy deed result.outcome result.player }
 {
@@ -124,7 +124,12 @@ pub fn do_deed<L: Ledger + Naming, B: FederateAmbassador, P: Publisher<L>, F: Ex
     }
 }
 
-impl<L: Ledger + Naming, B: FederateAmbassador, P: Publisher<L>, F: Execution> Player<L, B, P, F> {
+impl<L: Ledger + Naming, B: FederateAmbassador, P: Publisher<L>, H: History<L, B>> Player<
+    L,
+    B,
+    P,
+    H,
+> {
     /// Ends the caller: what it leaves behind. A federate that has not resigned stays joined.
     pub fn leave(self) -> Left<L, B>
         ensures { result.caller ≡ caller_of self }

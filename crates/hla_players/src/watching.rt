@@ -6,7 +6,7 @@ ghost use Rattle.hla_players.specs.Watching.{IsReadBy};
 
 use hla_base::Fault;
 use hla_callbacks::FederateAmbassador;
-use hla_execution::Execution;
+use hla_history::History;
 use hla_interface::{Closed, Rti};
 use hla_machine::Record;
 use hla_monitor::{Monitor, Naming, Publisher, Status};
@@ -23,9 +23,9 @@ pub struct Ran {
 }
 
 /// A monitor, where one is to watch. `LimitReached` as of `Rti::monitor`.
-pub fn watcher<L: Ledger + Naming, B: FederateAmbassador, P: Publisher<L>, F: Execution>(
+pub fn watcher<L: Ledger + Naming, B: FederateAmbassador, P: Publisher<L>, H: History<L, B>>(
     rt: &impl Wait,
-    rti: &mut Rti<L, B, P, F>,
+    rti: &mut Rti<L, B, P, H>,
     is_watched: bool,
 ) -> Result<Option<Monitor<L>>, Fault>
     ensures watched { IfOk result (λ m. is_some m ≡ is_watched) }

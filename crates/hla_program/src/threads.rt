@@ -18,6 +18,7 @@ use hla_interface::Closed;
 use hla_monitor::{Naming, Opened, Status};
 use hla_run::{OpenGate, Ran, RunFault, recorders, run_scripts};
 use hla_script::Watched;
+use hla_shared::Shared;
 use std::alloc::Global;
 use std::io::Write;
 use std::sync::Wait;
@@ -93,7 +94,7 @@ fn run_recorded<L: Ledger + Naming + Send + Sync, R: Threads + Wait + Sync, W: W
         opened,
     } = means;
     match recorders(alloc, script) {
-        Ok(own) => run_scripts::<L, Recorder, Federation, OpenGate, R, W>(
+        Ok(own) => run_scripts::<L, Recorder, Shared<L, Recorder, Federation>, OpenGate, R, W>(
             rt, alloc, blank, opened, fed, script, own, &OpenGate, is_watched, out,
         ),
         Err(_) => Err(RunFault::Memory),

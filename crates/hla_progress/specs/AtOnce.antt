@@ -9,9 +9,9 @@ use Rattle.hla_callbacks.specs.declared.callback.Callback.{Callback}
 use Rattle.hla_callbacks.specs.declared.callback.Callback.TheVariants as callback
 use Rattle.hla_null_message.specs.declared.message.Message.{Message}
 use Rattle.hla_null_message.specs.declared.message.Message.TheVariants as message
-use Rattle.hla_order_queues.specs.declared.control.Control.{Control}
-use Rattle.hla_local.specs.Arriving.{is_kept_in_order}
-use Rattle.hla_local.specs.Picking.{is_held_back}
+use Rattle.hla_component_rules.specs.declared.control.Control.{Control}
+use Rattle.hla_component_rules.specs.Arriving.{is_kept_in_order}
+use Rattle.hla_component_rules.specs.Picking.{is_held_back}
 use Rattle.hla_machine.specs.declared.step.Step.{Step}
 use Rattle.hla_components.specs.Components.{Components}
 use Rattle.hla_components.specs.Component.{local_bound}

@@ -16,21 +16,22 @@ pub use hla_interface::{
     Registration, Seat, Unsettled, settle,
 };
 use hla_monitor::{Naming, Opened, Published};
+use hla_shared::Shared;
 use std::alloc::Global;
 use std::sync::Wait;
 use std::sync::ledger::{Blank, Ledger};
 
 /// The run-time infrastructure: `hla_interface::Rti` over federations.
-pub type Rti<L, B, W> = hla_interface::Rti<L, B, W, Federation>;
+pub type Rti<L, B, W> = hla_interface::Rti<L, B, W, Shared<L, B, Federation>>;
 
 /// A joined federate, whose calls are the services of HLA 1.3: `hla_interface::Federate` over federations.
-pub type Federate<L, B, W> = hla_interface::Federate<L, B, W, Federation>;
+pub type Federate<L, B, W> = hla_interface::Federate<L, B, W, Shared<L, B, Federation>>;
 
 /// A caller that moves what is on the wires between federates: `hla_interface::Courier` over federations.
-pub type Courier<L, B, W> = hla_interface::Courier<L, B, W, Federation>;
+pub type Courier<L, B, W> = hla_interface::Courier<L, B, W, Shared<L, B, Federation>>;
 
 /// What `Rti::close` gives back where it does not close: `hla_interface::NotClosed` over federations.
-pub type NotClosed<L, B, W> = hla_interface::NotClosed<L, B, W, Federation>;
+pub type NotClosed<L, B, W> = hla_interface::NotClosed<L, B, W, Shared<L, B, Federation>>;
 
 /// The infrastructure with monitors that are read without a lock, as `Rti::new` makes it over the board of
 /// `hla_monitor::open_board`. Publishing waits by the handle `R`. `LimitReached` where the limit is above `MAX_HISTORY_LIMIT`;
@@ -52,5 +53,11 @@ pub fn open_rti<L: Ledger + Naming, B: FederateAmbassador, R: Wait + Drop>(
         (λ e. ((e ≡ Fault.LimitReached) × (max_history_limit < history_limit))
         ⊎ (e ≡ Fault.OutOfMemory)) }
 {
-    hla_interface::open_rti::<L, B, Federation, R>(alloc, rt, blank, opened, history_limit)
+    hla_interface::open_rti::<L, B, Shared<L, B, Federation>, R>(
+        alloc,
+        rt,
+        blank,
+        opened,
+        history_limit,
+    )
 }

@@ -10,7 +10,7 @@ use hla_base::{ExecutionName, Fault, FederateNo, List};
 use hla_callbacks::FederateAmbassador;
 use hla_catalogue::Catalogue;
 use hla_commands::{Call, Command, Line};
-use hla_execution::Execution;
+use hla_history::History;
 use hla_interface::{Courier, Federate};
 use hla_machine::{Answer, Carried, Outcome};
 use hla_monitor::{Naming, Publisher};
@@ -38,11 +38,11 @@ pub struct Stage<'a, G: Gate> {
 
 /// A federate that joined under a name, with a courier that brings all federates what they send each other.
 #[derive(Drop)]
-pub struct Life<L: Ledger + Naming, B: FederateAmbassador, P: Publisher<L>, F: Execution> {
+pub struct Life<L: Ledger + Naming, B: FederateAmbassador, P: Publisher<L>, H: History<L, B>> {
     pub name: List<u8>,
     pub number: FederateNo,
-    pub player: Player<L, B, P, F>,
-    pub courier: Courier<L, B, P, F>,
+    pub player: Player<L, B, P, H>,
+    pub courier: Courier<L, B, P, H>,
     /// How its lines came out, those that are done.
     pub told: Vec<LineOutcome>,
     /// Whether a growth was refused; then its last lines may not be done.
@@ -50,9 +50,9 @@ pub struct Life<L: Ledger + Naming, B: FederateAmbassador, P: Publisher<L>, F: E
 }
 
 /// Carries each wire that leads from a federate once. Answers whether anything was there.
-fn carry_from<L: Ledger + Naming, B: FederateAmbassador, P: Publisher<L>, F: Execution>(
+fn carry_from<L: Ledger + Naming, B: FederateAmbassador, P: Publisher<L>, H: History<L, B>>(
     rt: &impl Wait,
-    courier: &mut Courier<L, B, P, F>,
+    courier: &mut Courier<L, B, P, H>,
     execution: ExecutionName,
     from: FederateNo,
     joined: FederateNo,
@@ -68,9 +68,9 @@ fn carry_from<L: Ledger + Naming, B: FederateAmbassador, P: Publisher<L>, F: Exe
 }
 
 /// Has each federate announce its promise, by rising numbers. A refusal is in the records. Answers whether anything was announced.
-fn announce_all<L: Ledger + Naming, B: FederateAmbassador, P: Publisher<L>, F: Execution>(
+fn announce_all<L: Ledger + Naming, B: FederateAmbassador, P: Publisher<L>, H: History<L, B>>(
     rt: &impl Wait,
-    courier: &mut Courier<L, B, P, F>,
+    courier: &mut Courier<L, B, P, H>,
     execution: ExecutionName,
     joined: FederateNo,
 ) -> bool {
@@ -84,9 +84,9 @@ fn announce_all<L: Ledger + Naming, B: FederateAmbassador, P: Publisher<L>, F: E
 
 /// Has each federate announce its promise, and then carries each wire once, by rising numbers. A refusal is in the records. Answers
 /// whether anything was announced or carried.
-fn exchange<L: Ledger + Naming, B: FederateAmbassador, P: Publisher<L>, F: Execution>(
+fn exchange<L: Ledger + Naming, B: FederateAmbassador, P: Publisher<L>, H: History<L, B>>(
     rt: &impl Wait,
-    courier: &mut Courier<L, B, P, F>,
+    courier: &mut Courier<L, B, P, H>,
     execution: ExecutionName,
     joined: FederateNo,
 ) -> bool {
@@ -100,9 +100,9 @@ fn exchange<L: Ledger + Naming, B: FederateAmbassador, P: Publisher<L>, F: Execu
 
 /// Has the federates exchange what they have for each other, that many times, or until there is nothing more: then one exchange
 /// is as good as many.
-fn exchange_often<L: Ledger + Naming, B: FederateAmbassador, P: Publisher<L>, F: Execution>(
+fn exchange_often<L: Ledger + Naming, B: FederateAmbassador, P: Publisher<L>, H: History<L, B>>(
     rt: &impl Wait,
-    courier: &mut Courier<L, B, P, F>,
+    courier: &mut Courier<L, B, P, H>,
     execution: ExecutionName,
     joined: FederateNo,
     exchanges: u64,
@@ -116,10 +116,16 @@ fn exchange_often<L: Ledger + Naming, B: FederateAmbassador, P: Publisher<L>, F:
 
 /// What a thread does after a tick with nothing: it rests until a bout has ended. Where all others do so, too, are held or have
 /// ended, it leads the bout, and has the federates exchange what they have for each other.
-fn after_nothing<L: Ledger + Naming, B: FederateAmbassador, P: Publisher<L>, F: Execution, G: Gate>(
+fn after_nothing<
+    L: Ledger + Naming,
+    B: FederateAmbassador,
+    P: Publisher<L>,
+    H: History<L, B>,
+    G: Gate,
+>(
     rt: &impl Wait,
     stage: &Stage<G>,
-    courier: &mut Courier<L, B, P, F>,
+    courier: &mut Courier<L, B, P, H>,
     seen: u64,
     wait: &mut LineWait,
 ) {
@@ -144,13 +150,13 @@ fn tick_until_called<
     L: Ledger + Naming,
     B: FederateAmbassador,
     P: Publisher<L>,
-    F: Execution,
+    H: History<L, B>,
     G: Gate,
 >(
     rt: &impl Wait,
     stage: &Stage<G>,
-    federate: &mut Federate<L, B, P, F>,
-    courier: &mut Courier<L, B, P, F>,
+    federate: &mut Federate<L, B, P, H>,
+    courier: &mut Courier<L, B, P, H>,
 ) -> Outcome
     ensures execution { federate.new.execution ≡ federate.old.execution }
     ensures federate { federate.new.federate ≡ federate.old.federate }
@@ -171,13 +177,13 @@ fn tick_until_called<
 }
 
 /// Does what a line asks of the federate; one that has resigned does nothing any more.
-fn do_call<L: Ledger + Naming, B: FederateAmbassador, P: Publisher<L>, F: Execution, G: Gate>(
+fn do_call<L: Ledger + Naming, B: FederateAmbassador, P: Publisher<L>, H: History<L, B>, G: Gate>(
     rt: &impl Wait,
     stage: &Stage<G>,
-    player: Player<L, B, P, F>,
-    courier: &mut Courier<L, B, P, F>,
+    player: Player<L, B, P, H>,
+    courier: &mut Courier<L, B, P, H>,
     call: &Call<'_>,
-) -> Acted<L, B, P, F>
+) -> Acted<L, B, P, H>
     ensures same { (execution : List ℕ) (f : ℕ) → IsPlayerAs execution f player
         → IsPlayerAs execution f result.player }
     ensures added { (execution : List ℕ) (f : ℕ) → IsPlayerAs execution f player
@@ -205,7 +211,12 @@ fn do_call<L: Ledger + Naming, B: FederateAmbassador, P: Publisher<L>, F: Execut
     }
 }
 
-impl<L: Ledger + Naming, B: FederateAmbassador, P: Publisher<L>, F: Execution> Life<L, B, P, F> {
+impl<L: Ledger + Naming, B: FederateAmbassador, P: Publisher<L>, H: History<L, B>> Life<
+    L,
+    B,
+    P,
+    H,
+> {
     /// Does the line at a place of the script, between the two calls of the gate. A thread that is in one of these counts as held:
     /// others don't wait for it.
     fn next<G: Gate>(
@@ -215,7 +226,7 @@ impl<L: Ledger + Naming, B: FederateAmbassador, P: Publisher<L>, F: Execution> L
         place: usize,
         line: usize,
         call: &Call<'_>,
-    ) -> Life<L, B, P, F>
+    ) -> Life<L, B, P, H>
         requires { IsCallAt stage.now.lines.now place self.name call.now }
         ensures same { IsLifeOf self result }
         ensures recorded { (execution : List ℕ)
@@ -250,11 +261,11 @@ impl<L: Ledger + Naming, B: FederateAmbassador, P: Publisher<L>, F: Execution> L
 }
 
 /// Does the federate's lines of the script, in order.
-pub fn live<L: Ledger + Naming, B: FederateAmbassador, P: Publisher<L>, F: Execution, G: Gate>(
+pub fn live<L: Ledger + Naming, B: FederateAmbassador, P: Publisher<L>, H: History<L, B>, G: Gate>(
     rt: &impl Wait,
     stage: &Stage<G>,
-    mut life: Life<L, B, P, F>,
-) -> Life<L, B, P, F>
+    mut life: Life<L, B, P, H>,
+) -> Life<L, B, P, H>
     ensures same { IsLifeOf life result }
     ensures recorded { (execution : List ℕ)
         → IsLifeRecorded stage.now.catalogue.now stage.now.lines.now execution life

@@ -12,7 +12,7 @@ use crate::life::Life;
 use hla_base::{ExecutionName, Fault, List};
 use hla_callbacks::FederateAmbassador;
 use hla_commands::{Command, Line};
-use hla_execution::Execution;
+use hla_history::History;
 use hla_interface::Rti;
 use hla_machine::{Answer, Outcome};
 use hla_monitor::{Naming, Publisher};
@@ -32,14 +32,14 @@ fn copied(alloc: Global, name: &[u8]) -> Result<List<u8>, Fault>
 }
 
 /// Joins a federate with the next ambassador, and gives it a courier. An error is want of memory outside the steps.
-fn join_next<L: Ledger + Naming, B: FederateAmbassador, P: Publisher<L>, F: Execution>(
+fn join_next<L: Ledger + Naming, B: FederateAmbassador, P: Publisher<L>, H: History<L, B>>(
     rt: &impl Wait,
     alloc: Global,
-    rti: &mut Rti<L, B, P, F>,
+    rti: &mut Rti<L, B, P, H>,
     execution: ExecutionName,
     name: &[u8],
     ambassadors: &mut Ambassadors<B>,
-    lives: &mut Vec<Life<L, B, P, F>>,
+    lives: &mut Vec<Life<L, B, P, H>>,
 ) -> Result<Outcome, Fault>
     requires { 0 < length ambassadors.old }
     ensures taken { OnOk result (ambassadors.new ≡ drop 1 ambassadors.old) }
@@ -82,15 +82,15 @@ fn join_next<L: Ledger + Naming, B: FederateAmbassador, P: Publisher<L>, F: Exec
 }
 
 /// Does a line that creates the execution or joins a federate. An error is want of memory outside the steps.
-fn open_by<L: Ledger + Naming, B: FederateAmbassador, P: Publisher<L>, F: Execution>(
+fn open_by<L: Ledger + Naming, B: FederateAmbassador, P: Publisher<L>, H: History<L, B>>(
     rt: &impl Wait,
     alloc: Global,
-    rti: &mut Rti<L, B, P, F>,
+    rti: &mut Rti<L, B, P, H>,
     execution: ExecutionName,
     fed: &[u8],
     command: &Command<'_>,
     ambassadors: &mut Ambassadors<B>,
-    lives: &mut Vec<Life<L, B, P, F>>,
+    lives: &mut Vec<Life<L, B, P, H>>,
 ) -> Result<Option<Outcome>, Fault>
     requires { joins_by command.now ≤ length ambassadors.old }
     ensures taken { OnOk result (ambassadors.new ≡ drop (joins_by command.now) ambassadors.old) }
@@ -120,16 +120,16 @@ fn open_by<L: Ledger + Naming, B: FederateAmbassador, P: Publisher<L>, F: Execut
 
 /// Does the lines that create and join, in the order of the script: the federates that joined. `OutOfMemory` where a growth
 /// was refused outside the steps; what was done before stays done and noted.
-pub fn open<L: Ledger + Naming, B: FederateAmbassador, P: Publisher<L>, F: Execution>(
+pub fn open<L: Ledger + Naming, B: FederateAmbassador, P: Publisher<L>, H: History<L, B>>(
     rt: &impl Wait,
     alloc: Global,
-    rti: &mut Rti<L, B, P, F>,
+    rti: &mut Rti<L, B, P, H>,
     execution: ExecutionName,
     fed: &[u8],
     lines: &[Line<'_>],
     mut ambassadors: Ambassadors<B>,
     outcomes: &mut Outcomes,
-) -> Result<Vec<Life<L, B, P, F>>, Fault>
+) -> Result<Vec<Life<L, B, P, H>>, Fault>
     requires { joins lines.now ≤ length ambassadors }
     ensures each { OnOk result (length outcomes.new ≡ length outcomes.old) }
     ensures fresh { IfOk result (λ lives. AreFresh execution lives.items) }
@@ -161,9 +161,9 @@ pub fn open<L: Ledger + Naming, B: FederateAmbassador, P: Publisher<L>, F: Execu
 }
 
 /// Does the lines that destroy, in the order of the script.
-pub fn destroy<L: Ledger + Naming, B: FederateAmbassador, P: Publisher<L>, F: Execution>(
+pub fn destroy<L: Ledger + Naming, B: FederateAmbassador, P: Publisher<L>, H: History<L, B>>(
     rt: &impl Wait,
-    rti: &mut Rti<L, B, P, F>,
+    rti: &mut Rti<L, B, P, H>,
     execution: ExecutionName,
     lines: &[Line<'_>],
     outcomes: &mut Outcomes,
@@ -183,8 +183,8 @@ pub fn destroy<L: Ledger + Naming, B: FederateAmbassador, P: Publisher<L>, F: Ex
 }
 
 /// Whether a federate has joined under a name.
-fn has_joined<L: Ledger + Naming, B: FederateAmbassador, P: Publisher<L>, F: Execution>(
-    lives: &[Life<L, B, P, F>],
+fn has_joined<L: Ledger + Naming, B: FederateAmbassador, P: Publisher<L>, H: History<L, B>>(
+    lives: &[Life<L, B, P, H>],
     name: &[u8],
 ) -> bool
     ensures { result ≡ has_life lives.now name.now }
@@ -193,11 +193,12 @@ fn has_joined<L: Ledger + Naming, B: FederateAmbassador, P: Publisher<L>, F: Exe
 }
 
 /// Notes of the lines of federates that have not joined that they make no step.
-pub fn refuse_strangers<L: Ledger + Naming, B: FederateAmbassador, P: Publisher<L>, F: Execution>(
-    lives: &[Life<L, B, P, F>],
-    lines: &[Line<'_>],
-    outcomes: &mut Outcomes,
-)
+pub fn refuse_strangers<
+    L: Ledger + Naming,
+    B: FederateAmbassador,
+    P: Publisher<L>,
+    H: History<L, B>,
+>(lives: &[Life<L, B, P, H>], lines: &[Line<'_>], outcomes: &mut Outcomes)
     ensures each { length outcomes.new ≡ length outcomes.old }
     ensures recorded { KeepsRecorded lines.now (is_stranger lives.now) outcomes.old outcomes.new }
     ensures openings { KeepsOpenings lines.now outcomes.old outcomes.new }

@@ -19,7 +19,7 @@ use hla_base::{ExecutionName, Fault, MAX_HISTORY};
 use hla_callbacks::FederateAmbassador;
 use hla_catalogue::Catalogue;
 use hla_commands::Line;
-use hla_execution::Execution;
+use hla_history::History;
 use hla_interface::{Left, Rti, open_rti};
 use hla_monitor::{Naming, Opened, Publisher};
 use hla_players::{
@@ -36,8 +36,8 @@ use std::thread::Threads;
 
 /// Puts what a federate and its courier leave behind at the end of a list, and notes how its lines came out. `OutOfMemory` where a
 /// growth was refused, or was for the federate while it did its lines; then what of it was put stays.
-fn gather<L: Ledger + Naming, B: FederateAmbassador, P: Publisher<L>, F: Execution>(
-    life: Life<L, B, P, F>,
+fn gather<L: Ledger + Naming, B: FederateAmbassador, P: Publisher<L>, H: History<L, B>>(
+    life: Life<L, B, P, H>,
     lefts: &mut Vec<Left<L, B>>,
     outcomes: &mut Outcomes,
 ) -> Result<(), Fault>
@@ -65,9 +65,9 @@ fn gather<L: Ledger + Naming, B: FederateAmbassador, P: Publisher<L>, F: Executi
 }
 
 /// What all leave behind. `OutOfMemory` where a growth was refused, or was for one of them.
-fn gather_all<L: Ledger + Naming, B: FederateAmbassador, P: Publisher<L>, F: Execution>(
+fn gather_all<L: Ledger + Naming, B: FederateAmbassador, P: Publisher<L>, H: History<L, B>>(
     alloc: Global,
-    lives: Vec<Life<L, B, P, F>>,
+    lives: Vec<Life<L, B, P, H>>,
     outcomes: &mut Outcomes,
 ) -> Result<Vec<Left<L, B>>, Fault>
     ensures each { OnOk result (length outcomes.new ≡ length outcomes.old) }
@@ -85,8 +85,8 @@ fn gather_all<L: Ledger + Naming, B: FederateAmbassador, P: Publisher<L>, F: Exe
 }
 
 /// The number of federates that have joined; each has the number of its joining.
-fn number_of<L: Ledger + Naming, B: FederateAmbassador, P: Publisher<L>, F: Execution>(
-    lives: &[Life<L, B, P, F>],
+fn number_of<L: Ledger + Naming, B: FederateAmbassador, P: Publisher<L>, H: History<L, B>>(
+    lives: &[Life<L, B, P, H>],
 ) -> u32 {
     match lives.last() {
         Some(life) => life.number,
@@ -100,13 +100,13 @@ fn run_lines<
     L: Ledger + Naming + Send + Sync,
     B: FederateAmbassador + Send,
     P: Publisher<L> + Send,
-    F: Execution + Send,
+    H: History<L, B> + Send,
     G: Gate + Sync,
     R: Threads + Wait + Sync,
 >(
     rt: &R,
     alloc: Global,
-    rti: &mut Rti<L, B, P, F>,
+    rti: &mut Rti<L, B, P, H>,
     fed: &[u8],
     catalogue: &Catalogue,
     lines: &[Line<'_>],
@@ -135,7 +135,7 @@ fn run_lines<
         joined: number_of(lives.as_slice()),
         room: RestingRoom::new(lives.len()),
     };
-    let lived = |life: Life<L, B, P, F>| -> Life<L, B, P, F>
+    let lived = |life: Life<L, B, P, H>| -> Life<L, B, P, H>
         ensures same { IsLifeOf life result }
         ensures recorded { (execution : List ℕ)
             → IsLifeRecorded stage.entry.catalogue.now stage.entry.lines.now execution life
@@ -163,14 +163,14 @@ fn tell_on_threads<
     L: Ledger + Naming + Send + Sync,
     B: FederateAmbassador + Send,
     P: Publisher<L> + Send,
-    F: Execution + Send,
+    H: History<L, B> + Send,
     G: Gate + Sync,
     R: Threads + Wait + Sync,
     W: Write,
 >(
     rt: &R,
     alloc: Global,
-    mut rti: Rti<L, B, P, F>,
+    mut rti: Rti<L, B, P, H>,
     fed: &[u8],
     catalogue: &Catalogue,
     lines: &[Line<'_>],
@@ -231,7 +231,7 @@ fn tell_on_threads<
 /// the gate holds are waited for, for nearly a second in all of a line's ticks. `gate` is called round each line of a thread.
 /// Then it writes how the lines came out that were done, in the order of the script, and closes. Where `is_watched`, a
 /// monitor is there from before the first step on, and reads the counts once all is done. `blank` is a ledger of 2,049 parts
-/// and `opened` an empty history, as `open_rti` takes them; `F` is how executions are kept, as `Federation` of `hla_federation` is.
+/// and `opened` an empty history, as `open_rti` takes them; `H` is how executions and their history are kept, as `Shared` of `hla_shared` keeps them.
 ///
 /// `ambassadors` have heard nothing: each line that joins uses up the next, also where it is refused.
 ///
@@ -244,7 +244,7 @@ fn tell_on_threads<
 pub fn run_scripts<
     L: Ledger + Naming + Send + Sync,
     B: FederateAmbassador + Send,
-    F: Execution + Send,
+    H: History<L, B> + Send,
     G: Gate + Sync,
     R: Threads + Wait + Sync,
     W: Write,
@@ -301,7 +301,7 @@ pub fn run_scripts<
     ensures failure { out.new.has_failed ≡ (out.old.has_failed || is_unwritten_run result) }
 {
     let Texts { catalogue, script } = read_texts(alloc, fed, script, ambassadors.len())?;
-    let Ok(rti) = open_rti::<L, B, F, &R>(alloc, rt, blank, opened, MAX_HISTORY) else {
+    let Ok(rti) = open_rti::<L, B, H, &R>(alloc, rt, blank, opened, MAX_HISTORY) else {
         return Err(RunFault::Memory);
     };
     tell_on_threads(

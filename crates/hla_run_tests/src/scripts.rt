@@ -13,6 +13,7 @@ use hla_in_order::run_in_order;
 use hla_machine::{Answer, Outcome, Record};
 use hla_monitor::{Naming, Opened};
 use hla_run::{OpenGate, RunFault, recorders, run_scripts};
+use hla_shared::Shared;
 use hla_transcript::Watched;
 use std::alloc::Global;
 use std::marker::Brand;
@@ -171,7 +172,7 @@ fn refused<L: Ledger + Naming + Send + Sync, R: Threads + Wait + Abort + Sync>(
 {
     let mut out = Watched::new(Vec::new(alloc));
     let none: Vec<Recorder> = Vec::new(alloc);
-    let ran = run_scripts::<L, Recorder, Federation, OpenGate, R, Vec<u8>>(
+    let ran = run_scripts::<L, Recorder, Shared<L, Recorder, Federation>, OpenGate, R, Vec<u8>>(
         rt, alloc, blank, opened, fed, script, none, &OpenGate, false, &mut out,
     );
     let Err(fault) = ran else {
@@ -239,7 +240,7 @@ fn too_few_in_order<L: Ledger + Naming, R: Wait + Abort>(
         panic!(rt; "no memory");
     };
     let mut out = Watched::new(Vec::new(alloc));
-    let ran = run_in_order::<L, Recorder, Federation, R, Vec<u8>>(
+    let ran = run_in_order::<L, Recorder, Shared<L, Recorder, Federation>, R, Vec<u8>>(
         rt, alloc, blank, opened, FED, ORDERED, one, &mut out,
     );
     assert!(rt; matches!(ran, Err(RunFault::Ambassadors)));

@@ -9,6 +9,7 @@ use hla_in_order::run_in_order;
 use hla_monitor::{Naming, Opened, Status};
 use hla_rti::Closed;
 use hla_run::{Gate, recorders, run_scripts};
+use hla_shared::Shared;
 use hla_transcript::Watched;
 use std::alloc::Global;
 use std::process::Abort;
@@ -58,7 +59,7 @@ pub fn run<L: Ledger + Naming + Send + Sync, G: Gate + Sync, R: Threads + Wait +
         panic!(rt; "no memory");
     };
     let mut out = Watched::new(Vec::new(alloc));
-    let ran = run_scripts::<L, Recorder, Federation, G, R, Vec<u8>>(
+    let ran = run_scripts::<L, Recorder, Shared<L, Recorder, Federation>, G, R, Vec<u8>>(
         rt, alloc, blank, opened, FED, script, own, gate, true, &mut out,
     );
     match ran {
@@ -88,7 +89,7 @@ pub fn run_on_one_thread<L: Ledger + Naming, R: Wait + Abort>(
         panic!(rt; "no memory");
     };
     let mut out = Watched::new(Vec::new(alloc));
-    let ran = run_in_order::<L, Recorder, Federation, R, Vec<u8>>(
+    let ran = run_in_order::<L, Recorder, Shared<L, Recorder, Federation>, R, Vec<u8>>(
         rt, alloc, blank, opened, FED, script, own, &mut out,
     );
     match ran {

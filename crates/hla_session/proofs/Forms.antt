@@ -9,7 +9,7 @@ use Rattle.hla_components.specs.Next.{next}
 use Rattle.hla_federation.specs.FederationValue.{FederationValue}
 use Rattle.hla_federation.specs.Steps.Answering.{DoesStep}
 use Rattle.hla_history.specs.Forms.{IsOfForm, step_form}
-use Rattle.hla_history.proofs.Steps.FormLaws.{ends_in_form}
+use Rattle.hla_shared.proofs.Steps.FormLaws.{ends_in_form}
 use Rattle.hla_session.specs.Calls.{IsCalled}
 use Rattle.hla_session.specs.declared.session.Session.{Session}
 

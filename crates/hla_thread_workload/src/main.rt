@@ -19,6 +19,7 @@ use hla_checker::check_run;
 use hla_federation::Federation;
 use hla_monitor::{Naming, Opened};
 use hla_run::{OpenGate, Ran, recorders, run_scripts};
+use hla_shared::Shared;
 use hla_transcript::Watched;
 use std::alloc::Global;
 use std::env::Args;
@@ -81,7 +82,7 @@ fn run_at<L: Ledger + Naming + Send + Sync, R: Threads + Wait + Sync>(
 {
     let own = recorders(alloc, script).ok()?;
     let mut out = Watched::new(Vec::new(alloc));
-    let ran = run_scripts::<L, Recorder, Federation, OpenGate, R, Vec<u8>>(
+    let ran = run_scripts::<L, Recorder, Shared<L, Recorder, Federation>, OpenGate, R, Vec<u8>>(
         rt, alloc, blank, opened, FED, script, own, &OpenGate, false, &mut out,
     );
     match ran {

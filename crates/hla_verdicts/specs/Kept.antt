@@ -4,7 +4,7 @@ use Rattle.hla_catalogue.specs.CatalogueValue.{CatalogueValue}
 use Rattle.hla_declaration.specs.Lists.{DeclarationLists}
 use Rattle.hla_declaration.specs.Declarations as declared
 use Rattle.hla_declaration.specs.Declarations.{DeclarationsValue}
-use Rattle.hla_object_registry.specs.Registered.{Registered, RegistryValue, registry_of}
+use Rattle.hla_machine.specs.Registered.{Registered, RegistryValue, registry_of}
 use Rattle.hla_synchronization.specs.declared.open_points.OpenPoint.{OpenPoint}
 use Rattle.hla_synchronization.specs.OpenPoints.{points_of}
 use Rattle.hla_machine.specs.Directory.{Directory, with_points}

@@ -3,7 +3,7 @@
 ghost use Rattle.std.specs.Prelude.{◌≡◌, true, drop, length, IfOk, IfErr};
 ghost use Rattle.hla_base.specs.declared.fault.Fault.TheVariants.{OutOfMemory};
 ghost use Rattle.hla_base.specs.Tables.{upd2};
-ghost use Rattle.hla_object_registry.specs.Registered.{registry_of};
+ghost use Rattle.hla_machine.specs.Registered.{registry_of};
 ghost use Rattle.hla_callbacks.specs.declared.callback.Callback.TheVariants as callbacks;
 ghost use Rattle.hla_machine.specs.Directory.{Directory};
 ghost use Rattle.hla_machine.specs.Callbacks.{IsNextDiscovery};

@@ -4,7 +4,7 @@ ghost use Rattle.std.specs.Prelude.{◌≡◌, ◌≤◌, None, true, length, If
 ghost use Rattle.hla_base.specs.declared.fault.Fault.TheVariants.{OutOfMemory};
 ghost use Rattle.std.specs.Bool.{Decides};
 ghost use Rattle.hla_base.specs.Rows.{is_pending, RowNumbers};
-ghost use Rattle.hla_object_registry.specs.Registered.{registry_of};
+ghost use Rattle.hla_machine.specs.Registered.{registry_of};
 ghost use Rattle.hla_synchronization.specs.OpenPoints.{points_of};
 ghost use Rattle.hla_machine.specs.Directory.{Directory, with_points};
 ghost use Rattle.hla_machine.specs.Callbacks.{MayGrant, WhileAdvancing, IsInTurn, MayTickInVain};

@@ -5,7 +5,7 @@ use Rattle.hla_catalogue.specs.CatalogueValue.{CatalogueValue}
 use Rattle.hla_retraction.specs.SentEvents.{no_event}
 use Rattle.hla_retraction.specs.SentRows.{sent_of}
 use Rattle.hla_declaration.specs.Declarations.{DeclarationsValue}
-use Rattle.hla_object_registry.specs.Registered.{RegistryValue, new_registry}
+use Rattle.hla_machine.specs.Registered.{RegistryValue, new_registry}
 use Rattle.hla_synchronization.specs.Points.{Point}
 use Rattle.hla_machine.specs.Directory.{Directory, with_points}
 use Rattle.hla_machine.specs.Central.{new_central}

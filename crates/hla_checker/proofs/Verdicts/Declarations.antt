@@ -8,7 +8,7 @@ use Rattle.hla_catalogue.specs.Lookup.{item_numbered, is_interaction_class, is_o
 use Rattle.hla_declaration.specs.Lists.{DeclarationLists}
 use Rattle.hla_declaration.specs.Declarations.{DeclarationsValue, declarations_of}
 use Rattle.hla_catalogue.proofs.ItemLemmas.{item_numbered_past}
-use Rattle.hla_object_registry.specs.Registered.{registry_of}
+use Rattle.hla_machine.specs.Registered.{registry_of}
 use Rattle.hla_machine.specs.declared.service.Service.{Service}
 use Rattle.hla_machine.specs.declared.service.Service.TheVariants as service
 use Rattle.hla_machine.specs.declared.step.Step.TheVariants.{Call}

@@ -10,7 +10,7 @@ use Rattle.hla_catalogue.specs.declared.declared.Order.{Order}
 use Rattle.hla_catalogue.specs.declared.declared.Order.TheVariants.{Receive}
 use Rattle.hla_declaration.specs.Lists.{DeclarationLists}
 use Rattle.hla_declaration.specs.Declarations.{DeclarationsValue, declarations_of}
-use Rattle.hla_object_registry.specs.Registered.{Registered, RegistryValue, registry_of, unregistered_object}
+use Rattle.hla_machine.specs.Registered.{Registered, RegistryValue, registry_of, unregistered_object}
 use Rattle.hla_object_registry.specs.Queries.{without_owned}
 use Rattle.hla_object_registry.proofs.Items.{item-none}
 use Rattle.hla_machine.specs.declared.service.Service.TheVariants as service

@@ -8,7 +8,7 @@ use Rattle.hla_base.specs.Tables.{upd_row}
 use Rattle.hla_base.specs.declared.fault.Fault.{Fault}
 use Rattle.hla_declaration.specs.Declarations.{declarations_of}
 use Rattle.hla_object_registry.specs.Queries.{is_name_used_in, with_registered}
-use Rattle.hla_object_registry.specs.Registered.{Registered, RegistryValue, registry_of}
+use Rattle.hla_machine.specs.Registered.{Registered, RegistryValue, registry_of}
 use Rattle.hla_machine.specs.Directory.{Directory, discoveries_of, name_or_default}
 use Rattle.hla_machine.specs.Central.{Central}
 use Rattle.hla_machine.specs.Machine.{MayAnswer, after_register, central_seen}

@@ -3,7 +3,7 @@ use Rattle.std.proofs.Common.{◌≡◌, ℕ, List, ◌++◌, Some, None, refl, 
 use Rattle.hla_base.specs.Tables.{upd, upd2}
 use Rattle.hla_declaration.specs.Lists.{DeclarationLists}
 use Rattle.hla_declaration.specs.Declarations.{DeclarationsValue, declarations_of}
-use Rattle.hla_object_registry.specs.Registered.{Registered, registry_of}
+use Rattle.hla_machine.specs.Registered.{Registered, registry_of}
 use Rattle.hla_machine.specs.Directory.{Directory, with_discoveries_made}
 use Rattle.hla_machine.specs.Central.{Central}
 use Rattle.hla_machine.specs.Machine.{after_subscribe}

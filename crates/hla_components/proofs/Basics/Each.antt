@@ -4,7 +4,7 @@ use Rattle.std.proofs.lemmas.Bool.{cond_both, cases_Bool, cases_lt}
 use Rattle.std.proofs.lemmas.Bool.Decides.{nat_tests}
 use Rattle.hla_base.specs.declared.content.Event.{Event}
 use Rattle.hla_base.specs.Tables.{one_if}
-use Rattle.hla_order_queues.specs.Queues.{is_before, insert_event, is_event, find_event, remove_event, occurrences}
+use Rattle.hla_component_rules.specs.Queues.{is_before, insert_event, is_event, find_event, remove_event, occurrences}
 use Rattle.hla_components.specs.Invariant.{EachOf, AfterSerial, IsInSerialOrder, HasRisingSerials, AreEarlier}
 
 pub EachOf-append : {X : Type 0} (P : X → Type 0) (xs ys : List X) → EachOf P xs → EachOf P ys → EachOf P (xs ++ ys)

@@ -2,7 +2,7 @@
 use Rattle.std.proofs.Common.{refl}
 use Rattle.hla_base.specs.Tables.{upd, upd2, upd_row, upd_column, upd_new, upd_whole_column, least, greatest, numbers_below}
 use Rattle.hla_machine.specs.Central.{low_entry}
-use Rattle.hla_order_queues.specs.Queues.{insert_event, find_event, remove_event, least_ordered, handles_of}
+use Rattle.hla_component_rules.specs.Queues.{insert_event, find_event, remove_event, least_ordered, handles_of}
 use Rattle.hla_components.specs.Component.{regulation_entry}
 use Rattle.hla_components.specs.Examples.Roles.{Newcomer, Epoch, Retraction, Floor, RegulatorResigns, CeasingToBeConstrained, BarAboveEntry}
 

@@ -7,10 +7,10 @@ use Rattle.hla_base.specs.Tables.{or_else}
 use Rattle.hla_null_message.specs.declared.message.Message.{Message}
 use Rattle.hla_null_message.specs.declared.message.Message.TheVariants as message
 use Rattle.hla_null_message.specs.Wires.{events, discoveries}
-use Rattle.hla_order_queues.specs.declared.control.Control.{Control}
-use Rattle.hla_order_queues.specs.declared.control.Control.TheVariants.{ToDiscover, ToRetract, ToTell}
-use Rattle.hla_order_queues.specs.Controls.{discoveries_from}
-use Rattle.hla_order_queues.specs.Queues.{find_event}
+use Rattle.hla_component_rules.specs.declared.control.Control.{Control}
+use Rattle.hla_component_rules.specs.declared.control.Control.TheVariants.{ToDiscover, ToRetract, ToTell}
+use Rattle.hla_component_rules.specs.Controls.{discoveries_from}
+use Rattle.hla_component_rules.specs.Queues.{find_event}
 use Rattle.hla_machine.specs.Directory.{Directory}
 use Rattle.hla_machine.specs.Central.{Central, Copy}
 use Rattle.hla_components.specs.Components.{Components}

@@ -11,7 +11,7 @@ use Rattle.hla_base.specs.declared.number.EventHandle.{EventHandle}
 use Rattle.hla_base.specs.Rows.{is_regulator}
 use Rattle.hla_null_message.specs.declared.message.Message.{Message}
 use Rattle.hla_null_message.specs.declared.message.Message.TheVariants as message
-use Rattle.hla_order_queues.specs.declared.control.Control.TheVariants.{ToDiscover, ToRetract, ToTell}
+use Rattle.hla_component_rules.specs.declared.control.Control.TheVariants.{ToDiscover, ToRetract, ToTell}
 use Rattle.hla_callbacks.specs.declared.callback.Delivery.{Delivery}
 use Rattle.hla_machine.specs.declared.service.Service.{Service}
 use Rattle.hla_machine.specs.declared.service.Service.TheVariants as service
@@ -22,10 +22,10 @@ use Rattle.hla_machine.specs.declared.step.Outcome.TheVariants as outcome
 use Rattle.hla_machine.specs.declared.step.Choice.TheVariants as choice
 use Rattle.hla_machine.specs.Callbacks.{is_among}
 use Rattle.hla_machine.specs.Machine.{IsChoice, IsCallbackChoice, AreDistinct}
-use Rattle.hla_order_queues.specs.Queues.{occurrences, handles_of}
+use Rattle.hla_component_rules.specs.Queues.{occurrences, handles_of}
 use Rattle.hla_components.specs.Components.{Components}
 use Rattle.hla_components.specs.Component.{promise, local_bound}
-use Rattle.hla_local.specs.Picking.{pick, Pick, NoPick, PickControl, PickRo, PickRegulates, PickConstrains, PickTso, PickGrant, is_below}
+use Rattle.hla_component_rules.specs.Picking.{pick, Pick, NoPick, PickControl, PickRo, PickRegulates, PickConstrains, PickTso, PickGrant, is_below}
 use Rattle.hla_components.specs.Next.{Outcomes, answer_outcome, step_outcome, call_outcome, carry_outcome, pick_outcome, with_null_announced, content_callback, notice_callback}
 use Rattle.hla_components.specs.Invariant.{Kept}
 use Rattle.hla_components.proofs.Wiring.Queues.{find-none, occurs-cons, occurs-filter}

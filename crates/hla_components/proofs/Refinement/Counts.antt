@@ -8,7 +8,7 @@ use Rattle.hla_base.proofs.Tables.{upd_each, upd_same, upd_other, by_number}
 use Rattle.hla_catalogue.specs.CatalogueValue.{CatalogueValue}
 use Rattle.hla_null_message.specs.declared.message.Message.{Message}
 use Rattle.hla_null_message.specs.declared.message.Message.TheVariants as message
-use Rattle.hla_order_queues.specs.declared.control.Control.TheVariants.{ToDiscover, ToRetract, ToTell}
+use Rattle.hla_component_rules.specs.declared.control.Control.TheVariants.{ToDiscover, ToRetract, ToTell}
 use Rattle.hla_machine.specs.declared.service.Service.{Service}
 use Rattle.hla_machine.specs.declared.service.Service.TheVariants as service
 use Rattle.hla_machine.specs.declared.service.ResignAction.TheVariants.{DeleteObjects, NoAction}
@@ -20,7 +20,7 @@ use Rattle.hla_machine.specs.Refusals.{refusal}
 use Rattle.hla_machine.proofs.Basics.Tests.{caller_joined}
 use Rattle.hla_components.specs.Components.{Components, new_components}
 use Rattle.hla_components.specs.Component.{promise, regulation_entry, local_bound}
-use Rattle.hla_local.specs.Picking.{pick, Pick, NoPick, PickControl, PickRo, PickRegulates, PickConstrains, PickTso, PickGrant}
+use Rattle.hla_component_rules.specs.Picking.{pick, Pick, NoPick, PickControl, PickRo, PickRegulates, PickConstrains, PickTso, PickGrant}
 use Rattle.hla_components.specs.Next.{Outcomes, answer_outcome, with_message_sent, with_messages_sent, with_regulation_enabled, with_null_announced, with_federate_gone, call_outcome, carry_outcome, pick_outcome, step_outcome, components_seen}
 use Rattle.hla_components.specs.Invariant.{Kept, EpochInv}
 

@@ -5,9 +5,9 @@ use Rattle.hla_base.specs.declared.content.Event.{Event}
 use Rattle.hla_base.specs.declared.row.TimeRow.{TimeRow}
 use Rattle.hla_base.specs.declared.row.AdvanceRequest.{AdvanceRequest}
 use Rattle.hla_base.specs.Rows.{is_pending, is_constrained, is_flush, grant_time, reach}
-use Rattle.hla_order_queues.specs.declared.control.Control.{Control}
-use Rattle.hla_order_queues.specs.Queues.{first_stamp}
-use Rattle.hla_local.specs.Picking.{Pick, NoPick, PickControl, PickRo, PickRegulates, PickConstrains, PickTso, PickGrant, is_reached, is_first_fit, flush_time, is_picked, grant_pick, tso_pick, advance_pick, role_pick, is_held_back, ro_pick, pick}
+use Rattle.hla_component_rules.specs.declared.control.Control.{Control}
+use Rattle.hla_component_rules.specs.Queues.{first_stamp}
+use Rattle.hla_component_rules.specs.Picking.{Pick, NoPick, PickControl, PickRo, PickRegulates, PickConstrains, PickTso, PickGrant, is_reached, is_first_fit, flush_time, is_picked, grant_pick, tso_pick, advance_pick, role_pick, is_held_back, ro_pick, pick}
 
 pub record TsoFacts (r : TimeRow) (tso : List Event) (bound : ℕ) (q : AdvanceRequest) (e : Event) (rest : List Event) : Type 0 where
   pub front : tso ≡ e ∷ rest

@@ -17,13 +17,13 @@ use Rattle.hla_machine.proofs.Upkeep.Numbers.{AllNumbers, numbers_new, numbers_a
 use Rattle.hla_machine.specs.Runs.{IsRun}
 use Rattle.hla_machine.specs.Machine.{IsChoice}
 use Rattle.hla_machine.proofs.Upkeep.Runs.{run_safe}
-use Rattle.hla_order_queues.specs.declared.control.Control.TheVariants.{ToDiscover, ToRetract, ToTell}
+use Rattle.hla_component_rules.specs.declared.control.Control.TheVariants.{ToDiscover, ToRetract, ToTell}
 use Rattle.hla_null_message.specs.Wires.{discoveries, events, retractions}
-use Rattle.hla_order_queues.specs.Controls.{discoveries_from, dues, notices_in}
-use Rattle.hla_order_queues.specs.Queues.{occurrences, find_event}
+use Rattle.hla_component_rules.specs.Controls.{discoveries_from, dues, notices_in}
+use Rattle.hla_component_rules.specs.Queues.{occurrences, find_event}
 use Rattle.hla_components.specs.Components.{Components, new_components}
 use Rattle.hla_components.specs.Component.{local_bound}
-use Rattle.hla_local.specs.Picking.{Pick, NoPick, PickControl, PickRo, PickRegulates, PickConstrains, PickTso, PickGrant}
+use Rattle.hla_component_rules.specs.Picking.{Pick, NoPick, PickControl, PickRo, PickRegulates, PickConstrains, PickTso, PickGrant}
 use Rattle.hla_components.specs.Next.{Outcomes, unless_refused, components_seen, step_outcome, carry_outcome, pick_outcome, next}
 use Rattle.hla_components.specs.CentralOf.{central}
 use Rattle.hla_components.specs.Invariant.{Kept, Inv, CountsEnablings, EpochInv}

@@ -17,12 +17,12 @@ use Rattle.hla_machine.specs.Central.{Reached, at_key}
 use Rattle.hla_machine.specs.Callbacks.{IsLeastKey, IsFirstOfStamp, MayPick, MayGrantFlush, row_after, after_delivery}
 use Rattle.hla_machine.specs.Callbacks as machine
 use Rattle.hla_machine.specs.Refusals.{refusal}
-use Rattle.hla_order_queues.specs.Queues.{find_event, is_event, handle_of, first_stamp}
+use Rattle.hla_component_rules.specs.Queues.{find_event, is_event, handle_of, first_stamp}
 use Rattle.hla_null_message.specs.Wires.{events, retractions}
 use Rattle.hla_components.specs.Components.{Components}
 use Rattle.hla_null_message.specs.Promise.{promise_in}
 use Rattle.hla_components.specs.Component.{local_bound}
-use Rattle.hla_local.specs.Picking.{is_first_fit, PickRegulates, PickTso, PickGrant}
+use Rattle.hla_component_rules.specs.Picking.{is_first_fit, PickRegulates, PickTso, PickGrant}
 use Rattle.hla_components.specs.Next.{components_seen, pick_outcome}
 use Rattle.hla_components.specs.CentralOf.{central, bag_of, wire_copy, tso_copy, ro_copy}
 use Rattle.hla_components.specs.Invariant.{EachOf, Above, IsTsoQueue, IsInKeyOrder, AreEarlier, IsWaiting, CopyInv, ObjectInv, is_wire, stamps, Kept}

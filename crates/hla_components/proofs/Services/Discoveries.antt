@@ -17,12 +17,12 @@ use Rattle.hla_machine.specs.Central.{is_key}
 use Rattle.hla_machine.specs.Callbacks.{IsNextDiscovery}
 use Rattle.hla_machine.specs.Machine.{after_subscribe}
 use Rattle.hla_machine.specs.Refusals.{refusal}
-use Rattle.hla_order_queues.specs.declared.control.Control.{Control}
-use Rattle.hla_order_queues.specs.declared.control.Control.TheVariants.{ToDiscover, ToRetract}
+use Rattle.hla_component_rules.specs.declared.control.Control.{Control}
+use Rattle.hla_component_rules.specs.declared.control.Control.TheVariants.{ToDiscover, ToRetract}
 use Rattle.hla_null_message.specs.Wires.{events, discoveries, retractions}
-use Rattle.hla_order_queues.specs.Controls.{discoveries_from}
+use Rattle.hla_component_rules.specs.Controls.{discoveries_from}
 use Rattle.hla_components.specs.Components.{Components}
-use Rattle.hla_local.specs.Picking.{PickControl}
+use Rattle.hla_component_rules.specs.Picking.{PickControl}
 use Rattle.hla_components.specs.Next.{components_seen, step_outcome, put_discoveries, with_class_subscribed, carry_outcome, pick_outcome}
 use Rattle.hla_components.specs.CentralOf.{central}
 use Rattle.hla_components.specs.Invariant.{EachOf, Tells, IsTold, IsBehind, IsKnownOf, IsControl, is_wire, Kept}

@@ -11,11 +11,11 @@ use Rattle.hla_machine.specs.declared.service.Service.TheVariants as service
 use Rattle.hla_machine.specs.declared.step.Step.TheVariants.{Call}
 use Rattle.hla_machine.specs.Central.{BelowSomeWake, low_entry}
 use Rattle.hla_machine.specs.Refusals.{refusal}
-use Rattle.hla_order_queues.specs.Queues.{first_stamp}
+use Rattle.hla_component_rules.specs.Queues.{first_stamp}
 use Rattle.hla_components.specs.Components.{Components}
 use Rattle.hla_null_message.specs.Promise.{promise_in}
 use Rattle.hla_components.specs.Component.{local_bound, regulation_entry}
-use Rattle.hla_local.specs.Promising.{entry_held, entry_for}
+use Rattle.hla_component_rules.specs.Promising.{entry_held, entry_for}
 use Rattle.hla_components.specs.Next.{components_seen, step_outcome}
 use Rattle.hla_components.specs.CentralOf.{central}
 use Rattle.hla_components.specs.Invariant.{Kept}

@@ -10,7 +10,7 @@ use Rattle.hla_machine.specs.Central.{Central}
 use Rattle.hla_machine.specs.Machine.{with_told}
 use Rattle.hla_machine.specs.Refusals.{refusal}
 use Rattle.hla_null_message.specs.Wires.{events, discoveries, retractions}
-use Rattle.hla_order_queues.specs.Controls.{discoveries_from}
+use Rattle.hla_component_rules.specs.Controls.{discoveries_from}
 use Rattle.hla_components.specs.Components.{Components}
 use Rattle.hla_components.specs.Next.{components_seen, step_outcome}
 use Rattle.hla_components.specs.CentralOf.{central}

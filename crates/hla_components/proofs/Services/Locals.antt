@@ -12,13 +12,13 @@ use Rattle.hla_lbts.specs.declared.row.PeerRow.{PeerRow}
 use Rattle.hla_lbts.specs.Peers.{PeersValue, peers_of, null_bound}
 use Rattle.hla_null_message.specs.declared.message.Message.{Message}
 use Rattle.hla_null_message.specs.declared.message.Message.TheVariants as message
-use Rattle.hla_order_queues.specs.declared.control.Control.{Control}
-use Rattle.hla_order_queues.specs.declared.control.Control.TheVariants.{ToDiscover, ToRetract, ToTell}
-use Rattle.hla_order_queues.specs.Queues.{find_event, occurrences, is_event}
+use Rattle.hla_component_rules.specs.declared.control.Control.{Control}
+use Rattle.hla_component_rules.specs.declared.control.Control.TheVariants.{ToDiscover, ToRetract, ToTell}
+use Rattle.hla_component_rules.specs.Queues.{find_event, occurrences, is_event}
 use Rattle.hla_null_message.specs.Wires.{events}
-use Rattle.hla_local.specs.LocalValue.{LocalValue}
-use Rattle.hla_local.specs.Picking.{Pick, NoPick, PickControl, PickRo, PickRegulates, PickConstrains, PickTso, PickGrant, pick, picked_by, local_pick, local_picking, least_bound}
-use Rattle.hla_local.specs.Arriving.{MayCome, local_accepting, peers_accepting}
+use Rattle.hla_component_rules.specs.LocalValue.{LocalValue}
+use Rattle.hla_component_rules.specs.Picking.{Pick, NoPick, PickControl, PickRo, PickRegulates, PickConstrains, PickTso, PickGrant, pick, picked_by, local_pick, local_picking, least_bound}
+use Rattle.hla_component_rules.specs.Arriving.{MayCome, local_accepting, peers_accepting}
 use Rattle.hla_machine.specs.declared.step.Answer.TheVariants as answer
 use Rattle.hla_machine.specs.Directory.{with_points}
 use Rattle.hla_synchronization.specs.Points.{points_after_notice}

@@ -11,11 +11,11 @@ use Rattle.hla_machine.specs.declared.step.Step.TheVariants.{Call}
 use Rattle.hla_machine.specs.Central.{Ro, Tso, Demoted}
 use Rattle.hla_machine.specs.Machine.{BelowAllDemoted}
 use Rattle.hla_machine.specs.Refusals.{refusal, is_known}
-use Rattle.hla_order_queues.specs.Queues.{find_event, first_stamp, least_ordered, is_event}
+use Rattle.hla_component_rules.specs.Queues.{find_event, first_stamp, least_ordered, is_event}
 use Rattle.hla_null_message.specs.Wires.{events}
 use Rattle.hla_components.specs.Components.{Components}
 use Rattle.hla_components.specs.Component.{local_bound}
-use Rattle.hla_local.specs.Promising.{least_waiting}
+use Rattle.hla_component_rules.specs.Promising.{least_waiting}
 use Rattle.hla_components.specs.Next.{components_seen, step_outcome}
 use Rattle.hla_components.specs.CentralOf.{central, wire_copy, tso_copy, ro_copy}
 use Rattle.hla_components.specs.Invariant.{Above, Kept}

@@ -15,7 +15,7 @@ use Rattle.hla_machine.specs.Sends.{is_ordered}
 use Rattle.hla_machine.specs.Central.{Central}
 use Rattle.hla_machine.specs.Machine.{after_leaving, with_points_closed}
 use Rattle.hla_machine.specs.Refusals.{refusal}
-use Rattle.hla_order_queues.specs.Queues.{find_event}
+use Rattle.hla_component_rules.specs.Queues.{find_event}
 use Rattle.hla_null_message.specs.Wires.{events, discoveries, retractions, put_behind}
 use Rattle.hla_components.specs.Components.{Components}
 use Rattle.hla_components.specs.Next.{components_seen, step_outcome, with_message_sent, with_messages_sent, with_last_null, with_federate_gone}

@@ -15,11 +15,11 @@ use Rattle.hla_machine.specs.declared.step.Step.TheVariants.{Call, Carry}
 use Rattle.hla_machine.specs.Central.{is_key, at_key, at3}
 use Rattle.hla_machine.specs.Sends.{is_told, owed_to_receivers}
 use Rattle.hla_machine.specs.Refusals.{refusal}
-use Rattle.hla_order_queues.specs.declared.control.Control.{Control}
-use Rattle.hla_order_queues.specs.declared.control.Control.TheVariants.{ToDiscover, ToRetract, ToTell}
-use Rattle.hla_order_queues.specs.Queues.{is_event, find_event, remove_event, occurrences}
+use Rattle.hla_component_rules.specs.declared.control.Control.{Control}
+use Rattle.hla_component_rules.specs.declared.control.Control.TheVariants.{ToDiscover, ToRetract, ToTell}
+use Rattle.hla_component_rules.specs.Queues.{is_event, find_event, remove_event, occurrences}
 use Rattle.hla_null_message.specs.Wires.{events, discoveries, retractions, put_behind}
-use Rattle.hla_order_queues.specs.Controls.{discoveries_from, dues, notices_in}
+use Rattle.hla_component_rules.specs.Controls.{discoveries_from, dues, notices_in}
 use Rattle.hla_components.specs.Components.{Components}
 use Rattle.hla_components.specs.Next.{components_seen, step_outcome, put_retraction, with_event_retracted, with_retraction_accepted, carry_outcome}
 use Rattle.hla_components.specs.CentralOf.{central, bag_of, wire_copy, tso_copy, ro_copy}

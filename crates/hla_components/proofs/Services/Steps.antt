@@ -26,8 +26,8 @@ use Rattle.hla_machine.specs.Sends as machine
 use Rattle.hla_machine.specs.Refusals.{refusal, is_bad_stamp}
 use Rattle.hla_machine.proofs.Basics.Tests.{caller_joined, clear_call}
 use Rattle.hla_null_message.specs.Wires.{events, discoveries, retractions, put_behind}
-use Rattle.hla_order_queues.specs.Controls.{discoveries_from}
-use Rattle.hla_order_queues.specs.Queues.{handle_of}
+use Rattle.hla_component_rules.specs.Controls.{discoveries_from}
+use Rattle.hla_component_rules.specs.Queues.{handle_of}
 use Rattle.hla_components.specs.Components.{Components}
 use Rattle.hla_null_message.specs.Promise.{promise_in}
 use Rattle.hla_components.specs.Next.{with_directory, put_event, event_of, with_message_sent, with_messages_sent, step_outcome, components_seen, carry_outcome, with_event_accepted}

@@ -18,12 +18,12 @@ use Rattle.hla_machine.specs.Central.{Central}
 use Rattle.hla_machine.specs.Callbacks.{IsNextNotice, MayBeGiven, after_notice, after_pick}
 use Rattle.hla_machine.specs.Machine.{with_told, with_points_closed}
 use Rattle.hla_machine.specs.Refusals.{refusal}
-use Rattle.hla_order_queues.specs.declared.control.Control.{Control}
-use Rattle.hla_order_queues.specs.declared.control.Control.TheVariants.{ToDiscover, ToRetract, ToTell}
+use Rattle.hla_component_rules.specs.declared.control.Control.{Control}
+use Rattle.hla_component_rules.specs.declared.control.Control.TheVariants.{ToDiscover, ToRetract, ToTell}
 use Rattle.hla_null_message.specs.Wires.{discoveries}
-use Rattle.hla_order_queues.specs.Controls.{discoveries_from, dues, notices_in}
+use Rattle.hla_component_rules.specs.Controls.{discoveries_from, dues, notices_in}
 use Rattle.hla_components.specs.Components.{Components}
-use Rattle.hla_local.specs.Picking.{PickControl}
+use Rattle.hla_component_rules.specs.Picking.{PickControl}
 use Rattle.hla_components.specs.Next.{components_seen, step_outcome, pick_outcome, notice_callback, with_directory, with_notices, with_complete_closed}
 use Rattle.hla_components.specs.CentralOf.{central}
 use Rattle.hla_components.specs.Invariant.{EachOf, IsControl, Kept}

@@ -22,11 +22,11 @@ use Rattle.hla_machine.specs.Directory.{Directory}
 use Rattle.hla_machine.specs.Central.{Central, Ro, Tso, Demoted, at_key}
 use Rattle.hla_machine.specs.Callbacks.{IsDiscovered, IsFirstRo, MayReceive, MayDeliver, NothingIsDue, MayBeGiven, after_delivery, after_pick}
 use Rattle.hla_machine.specs.Refusals.{refusal}
-use Rattle.hla_order_queues.specs.Queues.{find_event, handle_of, is_event}
+use Rattle.hla_component_rules.specs.Queues.{find_event, handle_of, is_event}
 use Rattle.hla_null_message.specs.Wires.{events, discoveries}
-use Rattle.hla_order_queues.specs.Controls.{discoveries_from, dues, notices_in}
+use Rattle.hla_component_rules.specs.Controls.{discoveries_from, dues, notices_in}
 use Rattle.hla_components.specs.Components.{Components}
-use Rattle.hla_local.specs.Picking.{NoPick, PickRo, is_held_back}
+use Rattle.hla_component_rules.specs.Picking.{NoPick, PickRo, is_held_back}
 use Rattle.hla_components.specs.Next.{components_seen, pick_outcome, callback_outcome, event_callback, content_callback}
 use Rattle.hla_components.specs.CentralOf.{central, bag_of, wire_copy, tso_copy, ro_copy}
 use Rattle.hla_components.specs.Invariant.{EachOf, IsKnownOf, IsTold, IsBehind, Tells, IsWaiting, IsInSerialOrder, CopyInv, ObjectInv, Kept}

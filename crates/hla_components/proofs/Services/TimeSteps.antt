@@ -16,12 +16,12 @@ use Rattle.hla_machine.specs.declared.step.Answer.TheVariants as answer
 use Rattle.hla_base.specs.RowRefusals.{request_tests}
 use Rattle.hla_machine.specs.Refusals.{refusal}
 use Rattle.hla_null_message.specs.Wires.{events, discoveries, retractions, put_behind}
-use Rattle.hla_order_queues.specs.Controls.{discoveries_from}
-use Rattle.hla_order_queues.specs.Queues.{first_stamp}
+use Rattle.hla_component_rules.specs.Controls.{discoveries_from}
+use Rattle.hla_component_rules.specs.Queues.{first_stamp}
 use Rattle.hla_components.specs.Components.{Components}
 use Rattle.hla_null_message.specs.Promise.{promise_in}
 use Rattle.hla_components.specs.Component.{promise, local_bound}
-use Rattle.hla_local.specs.Promising.{promise_of}
+use Rattle.hla_component_rules.specs.Promising.{promise_of}
 use Rattle.hla_components.specs.Next.{answer_outcome, components_seen, step_outcome, with_row, with_null_announced}
 use Rattle.hla_components.specs.CentralOf.{central}
 use Rattle.hla_components.specs.Invariant.{Tells, CopyInv, ObjectInv, Kept}

@@ -8,7 +8,7 @@ use Rattle.hla_null_message.specs.declared.message.Message.{Message}
 use Rattle.hla_base.specs.Tables.{is_other}
 use Rattle.hla_base.specs.Rows.{next_request, width}
 use Rattle.hla_machine.specs.Central.{Copy, Ro, Tso, Demoted, BelowAllTso, BelowWake, BelowRequest, BelowOut, BelowBound}
-use Rattle.hla_order_queues.specs.Queues.{find_event, first_stamp}
+use Rattle.hla_component_rules.specs.Queues.{find_event, first_stamp}
 use Rattle.hla_null_message.specs.Wires.{events}
 use Rattle.hla_components.specs.Components.{Components}
 use Rattle.hla_null_message.specs.Promise.{promise_in, least_wake}

@@ -12,11 +12,11 @@ use Rattle.hla_machine.specs.declared.step.Step.TheVariants.{Call, Tick}
 use Rattle.hla_machine.specs.Central.{Copy, Tso, demoted_copy}
 use Rattle.hla_machine.specs.Callbacks.{AreTso, IsCopy, is_among, with_demoted}
 use Rattle.hla_machine.specs.Refusals.{refusal}
-use Rattle.hla_order_queues.specs.Queues.{find_event, is_event, occurrences, handle_of, handles_of}
+use Rattle.hla_component_rules.specs.Queues.{find_event, is_event, occurrences, handle_of, handles_of}
 use Rattle.hla_null_message.specs.Wires.{events}
 use Rattle.hla_components.specs.Components.{Components}
 use Rattle.hla_components.specs.Component.{local_bound}
-use Rattle.hla_local.specs.Picking.{PickConstrains, is_below}
+use Rattle.hla_component_rules.specs.Picking.{PickConstrains, is_below}
 use Rattle.hla_components.specs.Next.{components_seen, step_outcome, pick_outcome}
 use Rattle.hla_components.specs.CentralOf.{central, bag_of, wire_copy, tso_copy, ro_copy}
 use Rattle.hla_components.specs.Invariant.{EachOf, Above, IsTsoQueue, Kept}

@@ -9,11 +9,11 @@ use Rattle.hla_null_message.specs.declared.message.Message.{Message}
 use Rattle.hla_null_message.specs.declared.message.Message.TheVariants as message
 use Rattle.hla_base.specs.Tables.{forever, upd, upd_row, upd_column, is_other, least, when}
 use Rattle.hla_base.specs.Rows.{is_regulator, is_constrained, is_pending, is_disabled, is_enabled, next_request, width, row_with_entry}
-use Rattle.hla_order_queues.specs.Queues.{remove_event}
+use Rattle.hla_component_rules.specs.Queues.{remove_event}
 use Rattle.hla_components.specs.Components.{Components}
 use Rattle.hla_null_message.specs.Promise.{promise_in}
 use Rattle.hla_components.specs.Component.{local_bound}
-use Rattle.hla_local.specs.Promising.{promise_of}
+use Rattle.hla_component_rules.specs.Promising.{promise_of}
 use Rattle.hla_null_message.specs.Wires.{put_behind}
 use Rattle.hla_components.specs.Next.{put_retraction, with_regulation_enabled, with_regulation_disabled, with_event_retracted, with_retraction_accepted}
 use Rattle.hla_components.specs.Invariant.{Above, IsTsoQueue, IsInKeyOrder, Carries, RowInv, IsTimed, stamps}

@@ -9,13 +9,13 @@ use Rattle.hla_null_message.specs.declared.message.Message.{Message}
 use Rattle.hla_null_message.specs.declared.message.Message.TheVariants as message
 use Rattle.hla_base.specs.Tables.{upd, upd2}
 use Rattle.hla_machine.specs.Directory.{Directory}
-use Rattle.hla_order_queues.specs.declared.control.Control.{Control}
-use Rattle.hla_order_queues.specs.declared.control.Control.TheVariants.{ToDiscover, ToRetract, ToTell}
+use Rattle.hla_component_rules.specs.declared.control.Control.{Control}
+use Rattle.hla_component_rules.specs.declared.control.Control.TheVariants.{ToDiscover, ToRetract, ToTell}
 use Rattle.hla_null_message.specs.Wires.{discoveries, put_behind, without_last_null}
-use Rattle.hla_order_queues.specs.Queues.{insert_event, remove_event}
+use Rattle.hla_component_rules.specs.Queues.{insert_event, remove_event}
 use Rattle.hla_components.specs.Components.{Components}
 use Rattle.hla_components.specs.Next.{put_discoveries, with_event_accepted, with_discovery_accepted, with_retraction_accepted}
-use Rattle.hla_local.specs.Arriving.{is_kept_in_order}
+use Rattle.hla_component_rules.specs.Arriving.{is_kept_in_order}
 use Rattle.hla_components.specs.Invariant.{EachOf, IsKnownOf, IsTold, IsBehind, Tells, IsWaiting, IsControl, ObjectInv}
 use Rattle.hla_base.proofs.Tables.{upd_each, upd2_each, upd2_same}
 use Rattle.hla_components.proofs.Basics.Each.{EachOf-append, EachOf-weaker, EachOf-remove, EachOf-insert}

@@ -12,15 +12,15 @@ use Rattle.hla_base.specs.Tables.{upd, upd2, upd_row, is_other, least}
 use Rattle.hla_base.specs.Rows.{is_regulator, is_constrained, next_request}
 use Rattle.hla_machine.specs.Directory.{Outgoing, content_for}
 use Rattle.hla_machine.specs.Sends.{is_ordered, kept_stamp, sent_event}
-use Rattle.hla_order_queues.specs.Queues.{insert_event, first_stamp}
+use Rattle.hla_component_rules.specs.Queues.{insert_event, first_stamp}
 use Rattle.hla_components.specs.Components.{Components}
 use Rattle.hla_null_message.specs.Promise.{promise_in}
 use Rattle.hla_components.specs.Component.{promise, local_bound}
-use Rattle.hla_local.specs.Promising.{promise_of}
+use Rattle.hla_component_rules.specs.Promising.{promise_of}
 use Rattle.hla_lbts.specs.Peers.{null_bound}
 use Rattle.hla_null_message.specs.Wires.{put_behind}
 use Rattle.hla_components.specs.Next.{put_event, event_of, with_message_sent, with_null_announced, with_null_accepted, with_event_accepted, with_discovery_accepted}
-use Rattle.hla_local.specs.Arriving.{is_kept_in_order}
+use Rattle.hla_component_rules.specs.Arriving.{is_kept_in_order}
 use Rattle.hla_components.specs.Invariant.{Above, IsTsoQueue, IsInKeyOrder, Carries, RowInv, IsTimed, stamps}
 use Rattle.hla_components.proofs.Wiring.Keys.{IsInKeyOrder-insert}
 use Rattle.hla_components.proofs.Wiring.Queues.{Above-insert, IsTsoQueue-insert, first_stamp-insert}

@@ -11,11 +11,11 @@ use Rattle.hla_base.specs.Rows.{is_disabled}
 use Rattle.hla_machine.specs.Directory.{Outgoing, content_for}
 use Rattle.hla_machine.specs.Central.{Copy, Ro, Tso, is_key, at_key, with_copies, demoted_copy}
 use Rattle.hla_machine.specs.Sends.{is_ordered, kept_stamp, copy_for}
-use Rattle.hla_order_queues.specs.Queues.{is_event, find_event, occurrences, insert_event}
+use Rattle.hla_component_rules.specs.Queues.{is_event, find_event, occurrences, insert_event}
 use Rattle.hla_null_message.specs.Wires.{events}
 use Rattle.hla_components.specs.Components.{Components}
 use Rattle.hla_components.specs.Next.{put_event, event_of, with_message_sent, with_event_accepted}
-use Rattle.hla_local.specs.Arriving.{is_kept_in_order}
+use Rattle.hla_component_rules.specs.Arriving.{is_kept_in_order}
 use Rattle.hla_components.specs.CentralOf.{wire_copy, tso_copy, ro_copy, bag_of}
 use Rattle.hla_machine.proofs.Basics.Bags.{bag_ext, or_else-none, by_key, copies_here, copies_else, at_key_here, at_key_else, at_key_self, key_other_number, key_other_sender}
 use Rattle.hla_base.proofs.Tables.{by_number, upd_same, upd_other, upd_row_here, upd_row_self, upd_row_other, upd2_same, upd2_other}

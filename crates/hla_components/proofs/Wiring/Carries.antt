@@ -7,7 +7,7 @@ use Rattle.hla_base.specs.declared.content.Discovery.{Discovery}
 use Rattle.hla_null_message.specs.declared.message.Message.{Message}
 use Rattle.hla_null_message.specs.declared.message.Message.TheVariants as message
 use Rattle.hla_base.specs.Tables.{one_if}
-use Rattle.hla_order_queues.specs.Queues.{is_event, find_event, occurrences}
+use Rattle.hla_component_rules.specs.Queues.{is_event, find_event, occurrences}
 use Rattle.hla_null_message.specs.Wires.{events, retractions, put_behind, without_last_null}
 use Rattle.hla_components.specs.Next.{put_discoveries}
 use Rattle.hla_components.specs.Invariant.{Carries}

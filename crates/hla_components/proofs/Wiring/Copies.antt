@@ -8,11 +8,11 @@ use Rattle.hla_null_message.specs.declared.message.Message.{Message}
 use Rattle.hla_null_message.specs.declared.message.Message.TheVariants as message
 use Rattle.hla_base.specs.Tables.{upd, upd2, upd_row, one_if}
 use Rattle.hla_machine.specs.Directory.{Outgoing, content_for}
-use Rattle.hla_order_queues.specs.Queues.{insert_event, remove_event, is_event, occurrences}
+use Rattle.hla_component_rules.specs.Queues.{insert_event, remove_event, is_event, occurrences}
 use Rattle.hla_null_message.specs.Wires.{events}
 use Rattle.hla_components.specs.Components.{Components}
 use Rattle.hla_components.specs.Next.{put_event, event_of, with_event_accepted, with_retraction_accepted, with_wire}
-use Rattle.hla_local.specs.Arriving.{is_kept_in_order}
+use Rattle.hla_component_rules.specs.Arriving.{is_kept_in_order}
 use Rattle.hla_components.specs.Invariant.{EachOf, IsInSerialOrder, HasRisingSerials, AreEarlier, CopyInv, places_in}
 use Rattle.hla_base.proofs.Tables.{by_number, upd_same, upd_other, upd2_same, upd2_other, upd2_each, upd_row_each, upd_row_other}
 use Rattle.hla_components.proofs.Wiring.Queues.{occurs-append, occurs-insert, occurs-one, occurs-remove}

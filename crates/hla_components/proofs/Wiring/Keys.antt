@@ -4,7 +4,7 @@ use Rattle.std.proofs.lemmas.Bool.{cond_both, cases_Bool}
 use Rattle.std.proofs.lemmas.Bool.Decides.{nat_tests}
 use Rattle.hla_base.specs.declared.content.Event.{Event}
 use Rattle.hla_components.specs.Invariant.{KeyAbove, IsInKeyOrder}
-use Rattle.hla_order_queues.specs.Queues.{is_before, insert_event, remove_event, is_event, find_event}
+use Rattle.hla_component_rules.specs.Queues.{is_before, insert_event, remove_event, is_event, find_event}
 
 before_not_back : (e x : Event) → is_before e x ≡ true → is_before x e ≡ false
 before_not_back e x h = grind (arith, nat_tests)

@@ -5,7 +5,7 @@ use Rattle.std.proofs.lemmas.Bool.Decides.{nat_tests}
 use Rattle.hla_base.specs.declared.content.Event.{Event}
 use Rattle.hla_base.specs.Tables.{forever, or_else, one_if}
 use Rattle.hla_components.specs.Invariant.{Above, IsTsoQueue}
-use Rattle.hla_order_queues.specs.Queues.{is_before, insert_event, is_event, find_event, remove_event, occurrences, first_stamp}
+use Rattle.hla_component_rules.specs.Queues.{is_before, insert_event, is_event, find_event, remove_event, occurrences, first_stamp}
 
 pub Above-weaker : (v w : ℕ) (xs : List Event) → w ≤ v → Above v xs → Above w xs
 Above-weaker v w [] l h = tt

@@ -11,11 +11,11 @@ use Rattle.hla_base.specs.RowRefusals.{first_fault, request_tests}
 use Rattle.hla_catalogue.specs.CatalogueValue.{CatalogueValue}
 use Rattle.hla_declaration.specs.Declarations as declared
 use Rattle.hla_declaration.specs.Declarations.{DeclarationsValue}
-use Rattle.hla_object_registry.specs.Registered.{RegistryValue, registry_of}
+use Rattle.hla_machine.specs.Registered.{RegistryValue, registry_of}
 use Rattle.hla_lbts.specs.Peers.{peers_of}
-use Rattle.hla_local.specs.LocalValue.{LocalValue}
-use Rattle.hla_local.specs.declared.picked.NextPick.TheVariants as following
-use Rattle.hla_local.specs.Picking.{Pick, NoPick, PickControl, PickRo, PickRegulates, PickConstrains, PickTso, PickGrant, next_pick_by}
+use Rattle.hla_component_rules.specs.LocalValue.{LocalValue}
+use Rattle.hla_component_rules.specs.declared.picked.NextPick.TheVariants as following
+use Rattle.hla_component_rules.specs.Picking.{Pick, NoPick, PickControl, PickRo, PickRegulates, PickConstrains, PickTso, PickGrant, next_pick_by}
 use Rattle.hla_machine.specs.declared.service.Service.TheVariants as service
 use Rattle.hla_machine.specs.declared.step.Choice.TheVariants as choice
 use Rattle.hla_machine.specs.declared.step.Step.TheVariants.{Call}

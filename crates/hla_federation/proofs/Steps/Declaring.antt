@@ -10,12 +10,12 @@ use Rattle.hla_base.specs.Tables.{forever, upd, upd2, upd_new, is_other}
 use Rattle.hla_base.proofs.Tables.{upd_other, upd_each}
 use Rattle.hla_catalogue.specs.CatalogueValue.{CatalogueValue}
 use Rattle.hla_declaration.specs.Declarations.{DeclarationsValue}
-use Rattle.hla_object_registry.specs.Registered.{RegistryValue}
+use Rattle.hla_machine.specs.Registered.{RegistryValue}
 use Rattle.hla_lbts.specs.Peers.{PeersValue, peers_of}
 use Rattle.hla_null_message.specs.declared.message.Message.{Message}
 use Rattle.hla_null_message.specs.declared.message.Message.TheVariants as message
-use Rattle.hla_local.specs.LocalValue.{LocalValue, new_local}
-use Rattle.hla_local.specs.Picking.{Pick, NoPick, PickControl, PickRo, PickRegulates, PickConstrains, PickTso, PickGrant, pick, picked_by, local_pick, local_picking, least_bound}
+use Rattle.hla_component_rules.specs.LocalValue.{LocalValue, new_local}
+use Rattle.hla_component_rules.specs.Picking.{Pick, NoPick, PickControl, PickRo, PickRegulates, PickConstrains, PickTso, PickGrant, pick, picked_by, local_pick, local_picking, least_bound}
 use Rattle.hla_machine.specs.declared.step.Answer.TheVariants as answer
 use Rattle.hla_machine.specs.declared.step.Carried.TheVariants as carried
 use Rattle.hla_components.specs.Components.{Components}
@@ -26,8 +26,8 @@ use Rattle.hla_components.specs.Next.{Outcomes, next, answer_outcome, chosen_out
 use Rattle.hla_components.proofs.Services.Locals.{ticked, may_come, bound_is}
 use Rattle.hla_machine.specs.declared.step.Step.TheVariants.{Tick}
 use Rattle.hla_synchronization.specs.Points.{Point, announcement_of}
-use Rattle.hla_local.specs.Telling.{local_told}
-use Rattle.hla_order_queues.specs.declared.control.Control.{Control}
+use Rattle.hla_component_rules.specs.Telling.{local_told}
+use Rattle.hla_component_rules.specs.declared.control.Control.{Control}
 use Rattle.hla_machine.specs.Directory.{with_points}
 use Rattle.hla_federation.proofs.Steps.Notifying.{told_newcomer}
 use Rattle.hla_federation.specs.Steps.Memory.{takes_memory, pick_takes_memory}

@@ -12,8 +12,8 @@ use Rattle.hla_catalogue.specs.CatalogueValue.{CatalogueValue}
 use Rattle.hla_catalogue.specs.declared.declared.Order.{Order}
 use Rattle.hla_catalogue.specs.declared.declared.Order.TheVariants.{Receive, Timestamp}
 use Rattle.hla_declaration.specs.Declarations.{DeclarationsValue}
-use Rattle.hla_object_registry.specs.Registered.{RegistryValue}
-use Rattle.hla_local.specs.Picking.{Pick, pick, local_pick, picked_by, copies_content}
+use Rattle.hla_machine.specs.Registered.{RegistryValue}
+use Rattle.hla_component_rules.specs.Picking.{Pick, pick, local_pick, picked_by, copies_content}
 use Rattle.hla_base.specs.declared.fault.Fault.{Fault}
 use Rattle.hla_base.specs.declared.fault.Fault.TheVariants.{OutOfMemory}
 use Rattle.hla_base.specs.RowRefusals.{first_fault}

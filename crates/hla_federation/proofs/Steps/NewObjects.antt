@@ -17,7 +17,7 @@ use Rattle.hla_declaration.specs.declared.receiver.Receiver.{Receiver}
 use Rattle.hla_null_message.specs.declared.message.Message.{Message}
 use Rattle.hla_federation.specs.Steps.Discovering.{with_known_among, IsFederate, AreFederates}
 use Rattle.hla_machine.specs.Directory.{default_name}
-use Rattle.hla_object_registry.specs.Registered.{Registered, registry_of}
+use Rattle.hla_machine.specs.Registered.{Registered, registry_of}
 use Rattle.hla_federation.specs.FederationValue.{FederationValue}
 use Rattle.hla_federation.specs.Steps.State.{AreWhole, IsWhole}
 use Rattle.hla_execution.specs.MemberValue.{MemberValue}

@@ -18,13 +18,13 @@ use Rattle.hla_callbacks.specs.declared.callback.Delivery.{Delivery}
 use Rattle.hla_catalogue.specs.CatalogueValue.{CatalogueValue}
 use Rattle.hla_declaration.specs.Declarations as declared
 use Rattle.hla_declaration.specs.Declarations.{DeclarationsValue}
-use Rattle.hla_object_registry.specs.Registered.{RegistryValue}
-use Rattle.hla_order_queues.specs.declared.control.Control.{Control}
-use Rattle.hla_order_queues.specs.declared.control.Control.TheVariants.{ToDiscover, ToRetract, ToTell}
-use Rattle.hla_local.specs.LocalValue.{LocalValue, resigned_local}
-use Rattle.hla_local.specs.Telling.{local_told}
-use Rattle.hla_local.specs.declared.picked.Picked.{Picked}
-use Rattle.hla_local.specs.declared.picked.Picked.TheVariants as picked
+use Rattle.hla_machine.specs.Registered.{RegistryValue}
+use Rattle.hla_component_rules.specs.declared.control.Control.{Control}
+use Rattle.hla_component_rules.specs.declared.control.Control.TheVariants.{ToDiscover, ToRetract, ToTell}
+use Rattle.hla_component_rules.specs.LocalValue.{LocalValue, resigned_local}
+use Rattle.hla_component_rules.specs.Telling.{local_told}
+use Rattle.hla_component_rules.specs.declared.picked.Picked.{Picked}
+use Rattle.hla_component_rules.specs.declared.picked.Picked.TheVariants as picked
 use Rattle.hla_synchronization.specs.Points.{Point, new_point, is_open, closing, left_open, closing_of, notice, points_after_notice}
 use Rattle.hla_synchronization.specs.OpenPoints.{members_in}
 use Rattle.hla_machine.specs.Directory.{joined_federates, with_points}

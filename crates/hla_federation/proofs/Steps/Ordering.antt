@@ -9,7 +9,7 @@ use Rattle.hla_catalogue.specs.declared.declared.Attribute.{Attribute}
 use Rattle.hla_catalogue.specs.Lookup.{item_numbered, contains_number, object_lineage, has_attribute}
 use Rattle.hla_catalogue.proofs.ItemLemmas.{item_numbered_past}
 use Rattle.hla_object_registry.specs.Queries.{is_known_in}
-use Rattle.hla_object_registry.specs.Registered.{Registered, registry_of}
+use Rattle.hla_machine.specs.Registered.{Registered, registry_of}
 
 -- an item that is there has a number from 1 to how many there are
 pub item_numbered_within : {X : Type 0} (xs : List X) (n : ℕ) → is_some (item_numbered xs n) ≡ true → (0 < n) × (n ≤ length xs)

@@ -20,7 +20,7 @@ use Rattle.hla_declaration.specs.Declarations.{DeclarationsValue}
 use Rattle.hla_declaration.specs.Receivers.{receivers_of}
 use Rattle.hla_declaration.specs.Receivers as receivers
 use Rattle.hla_object_registry.specs.Queries as registry
-use Rattle.hla_object_registry.specs.Registered.{RegistryValue}
+use Rattle.hla_machine.specs.Registered.{RegistryValue}
 use Rattle.hla_catalogue.specs.CatalogueValue.{CatalogueValue}
 use Rattle.hla_declaration.specs.declared.receiver.Receiver.{Receiver}
 use Rattle.hla_declaration.proofs.ReceiverLemmas.{receiver_at}

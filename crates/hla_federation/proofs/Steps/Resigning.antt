@@ -10,12 +10,12 @@ use Rattle.hla_base.specs.declared.fault.Fault.TheVariants as fault
 use Rattle.hla_base.specs.Tables.{forever, upd, upd_row, upd_whole_column, is_other}
 use Rattle.hla_base.specs.Rows.{is_regulator, new_row}
 use Rattle.hla_lbts.specs.Peers.{peers_of}
-use Rattle.hla_local.specs.LocalValue.{LocalValue, resigned_local}
+use Rattle.hla_component_rules.specs.LocalValue.{LocalValue, resigned_local}
 use Rattle.hla_null_message.specs.declared.message.Message.TheVariants as message
 use Rattle.hla_catalogue.specs.CatalogueValue.{CatalogueValue}
 use Rattle.hla_base.specs.declared.row.TimeRow.{TimeRow}
 use Rattle.hla_declaration.specs.Declarations.{DeclarationsValue}
-use Rattle.hla_object_registry.specs.Registered.{RegistryValue}
+use Rattle.hla_machine.specs.Registered.{RegistryValue}
 use Rattle.hla_object_registry.specs.Queries.{without_owned}
 use Rattle.hla_null_message.specs.declared.message.Message.{Message}
 use Rattle.hla_machine.specs.Directory.{Directory, Outgoing, ADeletion, deletions_sent, objects_of, without_member, joined_federates}

@@ -6,7 +6,7 @@ use Rattle.hla_null_message.specs.declared.message.Message.{Message}
 use Rattle.hla_catalogue.specs.CatalogueValue.{CatalogueValue}
 use Rattle.hla_declaration.specs.Declarations as declared
 use Rattle.hla_declaration.specs.Declarations.{DeclarationsValue}
-use Rattle.hla_object_registry.specs.Registered.{registry_of, new_registry}
+use Rattle.hla_machine.specs.Registered.{registry_of, new_registry}
 use Rattle.hla_machine.specs.declared.step.Step.{Step}
 use Rattle.hla_machine.specs.declared.step.Answer.{Answer}
 use Rattle.hla_machine.specs.declared.step.Outcome.TheVariants as outcome

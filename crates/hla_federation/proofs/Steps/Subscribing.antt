@@ -16,7 +16,7 @@ use Rattle.hla_declaration.specs.Declarations as declared
 use Rattle.hla_declaration.specs.Declarations.{DeclarationsValue}
 use Rattle.hla_declaration.specs.Lists.{DeclarationLists}
 use Rattle.hla_machine.specs.Directory.{Directory, default_name, discoveries_of, with_discoveries_made, with_subscribed}
-use Rattle.hla_object_registry.specs.Registered.{Registered, RegistryValue, registry_of}
+use Rattle.hla_machine.specs.Registered.{Registered, RegistryValue, registry_of}
 use Rattle.hla_members.specs.declared.direction.Direction.TheVariants.{To}
 use Rattle.hla_federation.specs.FederationValue.{FederationValue}
 use Rattle.hla_components.specs.Invariant.{EachOf, DirectoryInv}

@@ -8,7 +8,7 @@ use Rattle.hla_catalogue.specs.CatalogueValue.{CatalogueValue}
 use Rattle.hla_catalogue.specs.declared.declared.Order.{Order}
 use Rattle.hla_declaration.specs.Declarations.{DeclarationsValue}
 use Rattle.hla_lbts.specs.Peers.{peers_of}
-use Rattle.hla_local.specs.LocalValue.{LocalValue, resigned_local}
+use Rattle.hla_component_rules.specs.LocalValue.{LocalValue, resigned_local}
 use Rattle.hla_execution.specs.MemberValue.{MemberValue, MemberTables, members_of}
 use Rattle.hla_members.specs.Members.{with_member_admitted}
 use Rattle.hla_members.proofs.MemberTables.{past}

@@ -2,7 +2,7 @@
 use Rattle.std.specs.Prelude.{◌≡◌, ◌⊎◌, ◌&&◌, ◌||◌, ltb, Bool, true, false, None, Some}
 use Rattle.hla_base.specs.declared.fault.Fault.{Fault}
 use Rattle.hla_base.specs.declared.fault.Fault.TheVariants.{OutOfMemory}
-use Rattle.hla_local.specs.Picking.{Pick, PickConstrains, pick, picked_by, copies_content}
+use Rattle.hla_component_rules.specs.Picking.{Pick, PickConstrains, pick, picked_by, copies_content}
 use Rattle.hla_machine.specs.declared.service.Service.{Service}
 use Rattle.hla_machine.specs.declared.service.Service.TheVariants as service
 use Rattle.hla_machine.specs.declared.step.Choice.{Choice}

@@ -7,7 +7,7 @@ use Rattle.std.specs.Option.{IsSome, is_some, option_map}
 use Rattle.hla_base.specs.declared.content.Event.{Event}
 use Rattle.hla_order_queues.specs.declared.key.EventKey.{EventKey}
 use Rattle.hla_order_queues.specs.declared.key.EventName.{EventName}
-use Rattle.hla_order_queues.specs.Queues.{is_before, insert_event, is_event, find_event, remove_event}
+use Rattle.hla_component_rules.specs.Queues.{is_before, insert_event, is_event, find_event, remove_event}
 use Rattle.hla_order_queues.specs.Kept.{key_of, is_less, name_of_key, IsInOrder, IsUnique, name_eq, stamp_at, stamp_of, AreNamed}
 use Rattle.hla_order_queues.specs.Names.{key_with}
 use Rattle.hla_order_queues.proofs.Events.EventLemmas.{names_equal, find_event_name, IsUnique-insert_event, IsUnique-remove_event, find_event-insert_event, find_event-remove_event_same, find_event-remove_event_other, remove_event_missed}

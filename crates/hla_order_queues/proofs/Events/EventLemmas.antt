@@ -2,7 +2,7 @@
 use Rattle.std.proofs.Common.{◌≡◌, ℕ, suc, Bool, true, false, cond, eqb, ◌&&◌, List, [], ◌∷◌, length, Option, Some, None, refl, sym, ap, ◌∙◌, arith}
 use Rattle.std.proofs.lemmas.Bool.Decides.{nat_tests}
 use Rattle.hla_base.specs.declared.content.Event.{Event}
-use Rattle.hla_order_queues.specs.Queues.{is_before, insert_event, is_event, find_event, remove_event}
+use Rattle.hla_component_rules.specs.Queues.{is_before, insert_event, is_event, find_event, remove_event}
 use Rattle.hla_order_queues.specs.Kept.{IsUnique}
 
 -- the tests

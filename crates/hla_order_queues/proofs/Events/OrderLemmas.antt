@@ -4,7 +4,7 @@ use Rattle.std.proofs.lemmas.Bool.Decides.{nat_tests}
 use Rattle.std.specs.List.{AllByRecursion}
 use Rattle.hla_base.specs.declared.content.Event.{Event}
 use Rattle.hla_order_queues.specs.declared.key.EventKey.{EventKey}
-use Rattle.hla_order_queues.specs.Queues.{is_before, insert_event}
+use Rattle.hla_component_rules.specs.Queues.{is_before, insert_event}
 use Rattle.hla_order_queues.specs.Moving.{IsRising}
 use Rattle.hla_order_queues.specs.Kept.{key_of, is_key_before, first_after, IsInOrder}
 

@@ -3,7 +3,7 @@ use Rattle.std.proofs.Common.{◌≡◌, ℕ, zero, suc, ◌+◌, ◌-◌, ◌�
 use Rattle.std.specs.List.{AllByRecursion, prefix_len, insert}
 use Rattle.hla_base.specs.declared.content.Event.{Event}
 use Rattle.hla_order_queues.specs.declared.key.EventKey.{EventKey}
-use Rattle.hla_order_queues.specs.Queues.{is_before, insert_event}
+use Rattle.hla_component_rules.specs.Queues.{is_before, insert_event}
 use Rattle.hla_order_queues.specs.Kept.{key_of, is_key_before, IsInOrder}
 use Rattle.hla_order_queues.proofs.Events.OrderLemmas.{All-implies, NoneAfter, before_then}
 

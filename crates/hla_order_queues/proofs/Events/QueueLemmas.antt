@@ -8,7 +8,7 @@ use Rattle.std.specs.Option.{IsSome, IfSome, OnSome}
 use Rattle.std.specs.List.{slice_get, find, position, position_or_len, remove}
 use Rattle.hla_base.specs.declared.content.Event.{Event}
 use Rattle.hla_base.specs.Tables.{forever}
-use Rattle.hla_order_queues.specs.Queues.{is_event, find_event, remove_event, least_ordered}
+use Rattle.hla_component_rules.specs.Queues.{is_event, find_event, remove_event, least_ordered}
 
 slice_get_past : (xs : List Event) (i : ℕ) → length xs ≤ i → slice_get xs i ≡ None
 slice_get_past [] i h = refl

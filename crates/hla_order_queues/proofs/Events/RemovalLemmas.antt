@@ -2,7 +2,7 @@
 use Rattle.std.proofs.Common.{◌≡◌, ℕ, Bool, true, false, cond, List, [], ◌∷◌, ◌++◌, drop, Option, Some, None, refl, ap}
 use Rattle.std.specs.List.{AllByRecursion}
 use Rattle.hla_base.specs.declared.content.Event.{Event}
-use Rattle.hla_order_queues.specs.Queues.{is_before, is_event, find_event, remove_event}
+use Rattle.hla_component_rules.specs.Queues.{is_before, is_event, find_event, remove_event}
 use Rattle.hla_order_queues.specs.Kept.{IsInOrder}
 use Rattle.hla_order_queues.proofs.Events.EventLemmas.{missed_head, missed_later}
 

@@ -5,7 +5,7 @@ use Rattle.std.specs.List.{AllByRecursion, slice_get}
 use Rattle.std.specs.Option.{option_map, MatchOption, IfSome}
 use Rattle.hla_base.specs.declared.content.Event.{Event}
 use Rattle.hla_order_queues.specs.declared.key.EventKey.{EventKey}
-use Rattle.hla_order_queues.specs.Queues.{insert_event}
+use Rattle.hla_component_rules.specs.Queues.{insert_event}
 use Rattle.hla_order_queues.specs.Kept.{key_of, is_less, first_after, separator_after, IsInOrder, joined, events_of, AreAfter, AreBelowBlocks, AreSeparatored, AreBlocks}
 use Rattle.hla_order_queues.proofs.Events.EventLemmas.{length-insert_event}
 use Rattle.hla_order_queues.proofs.Events.OrderLemmas.{All-implies, All-append, NoneAfter, insert_event-front, insert_event-back, IsInOrder-insert_event, All-insert_event, parts_of}

@@ -4,7 +4,7 @@ use Rattle.std.specs.List.{slice_get}
 use Rattle.std.specs.Result.{OnOk, OnErr}
 use Rattle.hla_base.specs.declared.content.Event.{Event}
 use Rattle.hla_base.specs.declared.number.EventHandle.{EventHandle}
-use Rattle.hla_order_queues.specs.Queues.{insert_event, find_event, remove_event, handles_of}
+use Rattle.hla_component_rules.specs.Queues.{insert_event, find_event, remove_event, handles_of}
 use Rattle.hla_order_queues.specs.Kept.{key_of, first_after, separator_after, IsInOrder, AreInOrder, AreAfter, AreBelowBlocks, joined, events_of}
 use Rattle.hla_order_queues.proofs.Events.EventLemmas.{length-insert_event, length-remove_event}
 use Rattle.hla_order_queues.specs.declared.key.EventKey.{EventKey}

@@ -5,7 +5,7 @@ use Rattle.std.specs.List.{AllByRecursion}
 use Rattle.std.specs.Option.{option_map}
 use Rattle.hla_base.specs.declared.content.Event.{Event}
 use Rattle.hla_order_queues.specs.declared.key.EventKey.{EventKey}
-use Rattle.hla_order_queues.specs.Queues.{is_event, find_event}
+use Rattle.hla_component_rules.specs.Queues.{is_event, find_event}
 use Rattle.hla_order_queues.specs.Kept.{key_of, is_key_before, first_after, IsInOrder}
 use Rattle.hla_order_queues.proofs.Events.OrderLemmas.{all_after}
 use Rattle.hla_order_queues.proofs.Events.RemovalLemmas.{find_event_before, find_event_behind}

@@ -6,7 +6,7 @@ use Rattle.std.specs.Bool.{⊤}
 use Rattle.std.specs.Result.{OnOk, OnErr}
 use Rattle.hla_base.specs.declared.content.Event.{Event}
 use Rattle.hla_order_queues.specs.declared.key.EventKey.{EventKey}
-use Rattle.hla_order_queues.specs.Queues.{insert_event, find_event, remove_event}
+use Rattle.hla_component_rules.specs.Queues.{insert_event, find_event, remove_event}
 use Rattle.hla_order_queues.specs.Kept.{key_of, is_less, separator_after, IsInOrder, joined, events_of, block_at, set_block, without_block, AreAfter, AreBelowBlocks, AreSeparatored, AreBlocks, At, IsPlace}
 use Rattle.hla_order_queues.specs.Places.{IsPutIn, IsPutInPlace}
 use Rattle.hla_order_queues.proofs.UnderSeparators.SeparatorLemmas.{block_is, set_is, without_is}

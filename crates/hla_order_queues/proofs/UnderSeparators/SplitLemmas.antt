@@ -6,7 +6,7 @@ use Rattle.std.specs.Option.{option_map, MatchOption}
 use Rattle.std.specs.BTreeMap.{insert_entry}
 use Rattle.hla_base.specs.declared.content.Event.{Event}
 use Rattle.hla_order_queues.specs.declared.key.EventKey.{EventKey}
-use Rattle.hla_order_queues.specs.Queues.{is_before, is_event, find_event}
+use Rattle.hla_component_rules.specs.Queues.{is_before, is_event, find_event}
 use Rattle.hla_order_queues.specs.Kept.{key_of, key_cmp, is_less, IsInOrder, IsUnique, joined, events_of, block_at, set_block, without_block, AreAfter, AreBelowBlocks, AreSeparatored, AreBlocks, At, IsHalved}
 use Rattle.hla_order_queues.proofs.Events.EventLemmas.{missed_head, missed_later}
 use Rattle.hla_order_queues.proofs.Events.OrderLemmas.{All-append_parts, parts_of}

@@ -7,7 +7,7 @@ use Rattle.std.specs.Option.{unwrap_or}
 use Rattle.slab.specs.Slab.{Slab, get}
 use Rattle.hla_base.specs.declared.content.Event.{Event}
 use Rattle.hla_base.specs.declared.number.EventHandle.{EventHandle}
-use Rattle.hla_order_queues.specs.Queues.{handle_of, handles_of}
+use Rattle.hla_component_rules.specs.Queues.{handle_of, handles_of}
 use Rattle.hla_order_queues.specs.Kept.{joined}
 use Rattle.hla_order_queues.specs.Places.{block_in}
 

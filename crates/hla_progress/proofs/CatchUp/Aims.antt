@@ -8,8 +8,8 @@ use Rattle.hla_base.specs.Rows.{is_next, is_constrained, is_enabled, first_or, r
 use Rattle.hla_base.proofs.Tables.{least_le-forever}
 use Rattle.hla_callbacks.specs.declared.callback.Callback.{Callback}
 use Rattle.hla_callbacks.specs.declared.callback.Callback.TheVariants as callback
-use Rattle.hla_order_queues.specs.Queues.{first_stamp}
-use Rattle.hla_local.specs.Picking.{Pick, NoPick, PickControl, PickRo, PickRegulates, PickConstrains, PickTso, PickGrant, is_first_fit}
+use Rattle.hla_component_rules.specs.Queues.{first_stamp}
+use Rattle.hla_component_rules.specs.Picking.{Pick, NoPick, PickControl, PickRo, PickRegulates, PickConstrains, PickTso, PickGrant, is_first_fit}
 use Rattle.hla_machine.specs.declared.step.Step.{Step}
 use Rattle.hla_machine.specs.Central.{BelowAllTso, BelowWake}
 use Rattle.hla_machine.proofs.Basics.Rows.{le_reach}

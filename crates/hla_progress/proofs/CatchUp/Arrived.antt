@@ -6,7 +6,7 @@ use Rattle.hla_base.specs.Tables.{forever}
 use Rattle.hla_null_message.specs.declared.message.Message.{Message}
 use Rattle.hla_null_message.specs.declared.message.Message.TheVariants as message
 use Rattle.hla_null_message.specs.Wires.{events, retractions}
-use Rattle.hla_order_queues.specs.Queues.{find_event, first_stamp}
+use Rattle.hla_component_rules.specs.Queues.{find_event, first_stamp}
 use Rattle.hla_machine.specs.Central.{BelowAllTso}
 use Rattle.hla_components.specs.Components.{Components}
 use Rattle.hla_components.specs.CentralOf.{central, bag_of, wire_copy, tso_copy, ro_copy}

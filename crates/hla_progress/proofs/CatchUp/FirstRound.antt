@@ -8,7 +8,7 @@ use Rattle.hla_base.specs.Rows.{is_regulator, next_request, reach}
 use Rattle.hla_base.specs.Tables.{one_if}
 use Rattle.hla_callbacks.specs.declared.callback.Callback.{Callback}
 use Rattle.hla_null_message.specs.Promise.{promise_in}
-use Rattle.hla_order_queues.specs.Queues.{first_stamp}
+use Rattle.hla_component_rules.specs.Queues.{first_stamp}
 use Rattle.hla_machine.specs.declared.step.Step.{Step}
 use Rattle.hla_machine.specs.declared.step.Step.TheVariants.{Join, Call, Carry, Announce, Tick}
 use Rattle.hla_machine.specs.Central.{BelowBound, BelowOut, BelowRequest, BelowAllTso}

@@ -6,8 +6,8 @@ use Rattle.hla_base.specs.declared.fault.Fault.{Fault}
 use Rattle.hla_base.specs.Tables.{forever}
 use Rattle.hla_base.specs.Rows.{is_regulator}
 use Rattle.hla_null_message.specs.declared.message.Message.{Message}
-use Rattle.hla_order_queues.specs.declared.control.Control.TheVariants.{ToDiscover, ToRetract, ToTell}
-use Rattle.hla_local.specs.Picking.{Pick, NoPick, PickControl, PickRo, PickRegulates, PickConstrains, PickTso, PickGrant}
+use Rattle.hla_component_rules.specs.declared.control.Control.TheVariants.{ToDiscover, ToRetract, ToTell}
+use Rattle.hla_component_rules.specs.Picking.{Pick, NoPick, PickControl, PickRo, PickRegulates, PickConstrains, PickTso, PickGrant}
 use Rattle.hla_machine.specs.declared.step.Step.TheVariants.{Tick}
 use Rattle.hla_machine.specs.Central.{BelowAllTso, BelowOut}
 use Rattle.hla_machine.specs.Directory.{Directory}

@@ -6,7 +6,7 @@ use Rattle.hla_base.specs.declared.row.TimeRow.{TimeRow}
 use Rattle.hla_base.specs.Tables.{forever}
 use Rattle.hla_base.specs.Rows.{is_next, is_constrained, keep_if, next_request, width}
 use Rattle.hla_null_message.specs.Promise.{least_wake, promise_in}
-use Rattle.hla_order_queues.specs.Queues.{first_stamp}
+use Rattle.hla_component_rules.specs.Queues.{first_stamp}
 use Rattle.hla_machine.specs.Central.{BelowAllTso, BelowWake, BelowOut, BelowRequest}
 use Rattle.hla_components.specs.Components.{Components}
 use Rattle.hla_components.specs.Component.{local_bound, promise}

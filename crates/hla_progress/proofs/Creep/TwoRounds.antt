@@ -4,7 +4,7 @@ use Rattle.std.proofs.lemmas.Bool.{cases_lt}
 use Rattle.std.proofs.Math.Nat.{suc-mul}
 use Rattle.hla_base.specs.Tables.{forever}
 use Rattle.hla_base.specs.Rows.{is_regulator, next_request, width}
-use Rattle.hla_order_queues.specs.Queues.{first_stamp}
+use Rattle.hla_component_rules.specs.Queues.{first_stamp}
 use Rattle.hla_machine.specs.Central.{BelowAllTso, BelowRequest}
 use Rattle.hla_components.specs.CentralOf.{central}
 use Rattle.hla_components.specs.Components.{Components}

@@ -8,7 +8,7 @@ use Rattle.hla_base.specs.Tables.{one_if}
 use Rattle.hla_base.specs.Rows.{is_flush, is_constrained}
 use Rattle.hla_null_message.specs.declared.message.Message.{Message}
 use Rattle.hla_null_message.specs.declared.message.Message.TheVariants as message
-use Rattle.hla_local.specs.Arriving.{is_kept_in_order}
+use Rattle.hla_component_rules.specs.Arriving.{is_kept_in_order}
 use Rattle.hla_components.specs.Components.{Components}
 use Rattle.hla_progress.specs.AtOnce.{is_ro_due, is_tso_asked, is_tso_due, due_of, due_on_wire, due_in_order, due_up_to, total}
 use Rattle.hla_progress.proofs.Waiting.Picks.{le_leb}

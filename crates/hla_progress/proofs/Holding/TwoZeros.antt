@@ -8,9 +8,9 @@ use Rattle.hla_base.specs.Rows.{is_next, is_regulator, is_constrained, keep_if, 
 use Rattle.hla_base.specs.Tables.{upd}
 use Rattle.hla_base.proofs.Tables.{least_le, upd_same, upd_other}
 use Rattle.hla_null_message.specs.Promise.{promise_in}
-use Rattle.hla_order_queues.specs.declared.control.Control.TheVariants.{ToDiscover, ToRetract, ToTell}
-use Rattle.hla_order_queues.specs.Queues.{first_stamp}
-use Rattle.hla_local.specs.Picking.{Pick, NoPick, PickControl, PickRo, PickRegulates, PickConstrains, PickTso, PickGrant}
+use Rattle.hla_component_rules.specs.declared.control.Control.TheVariants.{ToDiscover, ToRetract, ToTell}
+use Rattle.hla_component_rules.specs.Queues.{first_stamp}
+use Rattle.hla_component_rules.specs.Picking.{Pick, NoPick, PickControl, PickRo, PickRegulates, PickConstrains, PickTso, PickGrant}
 use Rattle.hla_machine.specs.declared.step.Step.{Step}
 use Rattle.hla_machine.specs.declared.step.Step.TheVariants.{Join, Call, Carry, Announce, Tick}
 use Rattle.hla_machine.specs.declared.step.Answer.TheVariants as answer

@@ -11,7 +11,7 @@ use Rattle.hla_base.proofs.Tables.{upd_each, upd_same, upd_other, upd2_each, upd
 use Rattle.hla_null_message.specs.declared.message.Message.{Message}
 use Rattle.hla_null_message.specs.declared.message.Message.TheVariants as message
 use Rattle.hla_null_message.specs.Promise.{promise_in}
-use Rattle.hla_order_queues.specs.Queues.{first_stamp}
+use Rattle.hla_component_rules.specs.Queues.{first_stamp}
 use Rattle.hla_machine.specs.Directory.{Directory, Outgoing, content_for, discoveries_of}
 use Rattle.hla_components.specs.Components.{Components}
 use Rattle.hla_components.specs.Component.{local_bound}

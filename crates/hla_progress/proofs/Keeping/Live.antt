@@ -4,7 +4,7 @@ use Rattle.std.proofs.lemmas.Bool.{cases_Bool, cases_lt}
 use Rattle.hla_base.specs.declared.content.Event.{Event}
 use Rattle.hla_base.proofs.Tables.{least_le, least_le-forever}
 use Rattle.hla_null_message.specs.Wires.{retractions}
-use Rattle.hla_order_queues.specs.Queues.{first_stamp}
+use Rattle.hla_component_rules.specs.Queues.{first_stamp}
 use Rattle.hla_machine.specs.Central.{BelowAllTso}
 use Rattle.hla_components.specs.Components.{Components}
 use Rattle.hla_components.specs.Component.{local_bound}

@@ -13,8 +13,8 @@ use Rattle.hla_machine.specs.declared.step.Step.TheVariants.{Join, Call, Carry, 
 use Rattle.hla_machine.specs.Directory.{Directory, Outgoing, objects_of, update_sent, interaction_sent, deletion_sent, deletions_sent}
 use Rattle.hla_machine.specs.declared.step.Answer.TheVariants as answer
 use Rattle.hla_machine.specs.Refusals.{refusal}
-use Rattle.hla_local.specs.Picking.{Pick, PickControl}
-use Rattle.hla_order_queues.specs.declared.control.Control.TheVariants.{ToDiscover, ToRetract, ToTell}
+use Rattle.hla_component_rules.specs.Picking.{Pick, PickControl}
+use Rattle.hla_component_rules.specs.declared.control.Control.TheVariants.{ToDiscover, ToRetract, ToTell}
 use Rattle.hla_null_message.specs.declared.message.Message.{Message}
 use Rattle.hla_null_message.specs.declared.message.Message.TheVariants as message
 use Rattle.hla_components.specs.Components.{Components, new_components}

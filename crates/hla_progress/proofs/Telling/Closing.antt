@@ -7,8 +7,8 @@ use Rattle.hla_base.specs.Rows.{is_regulator}
 use Rattle.hla_base.proofs.Tables.{upd_each}
 use Rattle.hla_null_message.specs.declared.message.Message.{Message}
 use Rattle.hla_null_message.specs.declared.message.Message.TheVariants as message
-use Rattle.hla_order_queues.specs.declared.control.Control.TheVariants.{ToDiscover, ToRetract, ToTell}
-use Rattle.hla_local.specs.Picking.{pick, Pick, PickControl}
+use Rattle.hla_component_rules.specs.declared.control.Control.TheVariants.{ToDiscover, ToRetract, ToTell}
+use Rattle.hla_component_rules.specs.Picking.{pick, Pick, PickControl}
 use Rattle.hla_callbacks.specs.declared.callback.Callback.TheVariants as callback
 use Rattle.hla_synchronization.specs.Points.{Point, point_labelled, is_open, notice}
 use Rattle.hla_machine.specs.declared.step.Step.{Step}

@@ -9,10 +9,10 @@ use Rattle.hla_base.specs.Tables.{one_if, or_else}
 use Rattle.hla_null_message.specs.declared.message.Message.{Message}
 use Rattle.hla_null_message.specs.declared.message.Message.TheVariants as message
 use Rattle.hla_null_message.specs.Wires.{put_behind, without_last_null}
-use Rattle.hla_order_queues.specs.declared.control.Control.{Control}
-use Rattle.hla_order_queues.specs.declared.control.Control.TheVariants.{ToRetract}
-use Rattle.hla_order_queues.specs.Queues.{is_before, is_event, insert_event, remove_event, find_event}
-use Rattle.hla_local.specs.Arriving.{is_kept_in_order, tso_with_event, ro_with_event, controls_with_retraction}
+use Rattle.hla_component_rules.specs.declared.control.Control.{Control}
+use Rattle.hla_component_rules.specs.declared.control.Control.TheVariants.{ToRetract}
+use Rattle.hla_component_rules.specs.Queues.{is_before, is_event, insert_event, remove_event, find_event}
+use Rattle.hla_component_rules.specs.Arriving.{is_kept_in_order, tso_with_event, ro_with_event, controls_with_retraction}
 use Rattle.hla_progress.specs.AtOnce.{is_ro_due, is_tso_due, due_in_order, due_of, due_on_wire, due_in_queues, total}
 
 -- ---- sums

@@ -10,9 +10,9 @@ use Rattle.hla_base.specs.Tables.{forever}
 use Rattle.hla_base.specs.declared.row.AdvanceKind.{AdvanceKind}
 use Rattle.hla_callbacks.specs.declared.callback.Callback.{Callback}
 use Rattle.hla_callbacks.specs.declared.callback.Callback.TheVariants as callback
-use Rattle.hla_order_queues.specs.declared.control.Control.{Control}
-use Rattle.hla_order_queues.specs.Queues.{first_stamp}
-use Rattle.hla_local.specs.Picking.{Pick, NoPick, PickControl, PickRo, PickRegulates, PickConstrains, PickTso, PickGrant, is_reached, is_first_fit, flush_time, is_picked, grant_pick, tso_pick, advance_pick, role_pick, is_held_back, ro_pick, pick}
+use Rattle.hla_component_rules.specs.declared.control.Control.{Control}
+use Rattle.hla_component_rules.specs.Queues.{first_stamp}
+use Rattle.hla_component_rules.specs.Picking.{Pick, NoPick, PickControl, PickRo, PickRegulates, PickConstrains, PickTso, PickGrant, is_reached, is_first_fit, flush_time, is_picked, grant_pick, tso_pick, advance_pick, role_pick, is_held_back, ro_pick, pick}
 use Rattle.hla_components.specs.Invariant.{RowInv}
 use Rattle.hla_progress.specs.AtOnce.{is_flush_asked, WaitsForNobody, IsAwaited, is_tso_due}
 

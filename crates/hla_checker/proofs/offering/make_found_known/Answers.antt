@@ -2,7 +2,7 @@ use Rattle.std.proofs.Common.{◌≡◌, ◌≤◌, ℕ, Bool, true, false, is_s
 use Rattle.hla_base.specs.Tables.{upd2}
 use Rattle.hla_declaration.specs.Declarations.{declarations_of}
 use Rattle.hla_machine.specs.Directory.{Directory, discovery_of}
-use Rattle.hla_object_registry.specs.Registered.{RegistryValue, registry_of}
+use Rattle.hla_machine.specs.Registered.{RegistryValue, registry_of}
 use Rattle.hla_object_registry.proofs.Unregistered.{no_object_above}
 use Rattle.hla_verdicts.specs.Kept.{directory_kept}
 use Rattle.hla_checker.proofs.Objects.FoundObjects.{known_more, known_same, known_all, still_found, is_found}

@@ -1,7 +1,7 @@
 -- Nothing but who knows what has changed, and of the objects so far it is right.
 use Rattle.std.proofs.Common.{◌≡◌, is_some}
 use Rattle.hla_declaration.specs.Declarations.{declarations_of}
-use Rattle.hla_object_registry.specs.Registered.{registry_of}
+use Rattle.hla_machine.specs.Registered.{registry_of}
 use Rattle.hla_machine.specs.Directory.{discovery_of}
 use Rattle.hla_verdicts.specs.Kept.{directory_kept}
 use Rattle.hla_checker.proofs.Objects.FoundObjects.{known_below}

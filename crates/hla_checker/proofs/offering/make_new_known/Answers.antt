@@ -3,7 +3,7 @@ use Rattle.hla_base.specs.declared.content.Discovery.{Discovery}
 use Rattle.hla_base.specs.Tables.{upd2}
 use Rattle.hla_declaration.specs.Declarations.{declarations_of}
 use Rattle.hla_machine.specs.Directory.{Directory, discovery_of}
-use Rattle.hla_object_registry.specs.Registered.{RegistryValue, registry_of}
+use Rattle.hla_machine.specs.Registered.{RegistryValue, registry_of}
 use Rattle.hla_accounts.specs.Accounts.{account_at}
 use Rattle.hla_verdicts.specs.Kept.{directory_kept}
 use Rattle.hla_checker.proofs.Objects.NewObjects.{among_all, among_first, among_more, among_same, not_joined, still_among}

@@ -1,6 +1,6 @@
 -- The discoveries of the federates so far wait.
 use Rattle.hla_declaration.specs.Declarations.{declarations_of}
-use Rattle.hla_object_registry.specs.Registered.{registry_of}
+use Rattle.hla_machine.specs.Registered.{registry_of}
 use Rattle.hla_verdicts.specs.Kept.{directory_kept}
 use Rattle.hla_checker.proofs.Objects.NewObjects.{AreOfferedBelow}
 use Rattle.hla_checker.proofs.offering.offer_new.Given as goal

@@ -1,6 +1,6 @@
 use Rattle.std.proofs.Common.{sym, ◌∙◌}
 use Rattle.hla_declaration.specs.Declarations.{declarations_of}
-use Rattle.hla_object_registry.specs.Registered.{registry_of}
+use Rattle.hla_machine.specs.Registered.{registry_of}
 use Rattle.hla_accounts.proofs.AfterSteps.Counts.{on_ok}
 use Rattle.hla_accounts.proofs.Sendings.Messages.{joined_in}
 use Rattle.hla_verdicts.specs.Kept.{directory_kept}

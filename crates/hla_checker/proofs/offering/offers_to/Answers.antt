@@ -3,7 +3,7 @@ use Rattle.hla_base.specs.declared.content.Discovery.{Discovery}
 use Rattle.hla_base.specs.Tables.{when}
 use Rattle.hla_declaration.specs.Declarations.{declarations_of}
 use Rattle.hla_machine.specs.Directory.{Directory}
-use Rattle.hla_object_registry.specs.Registered.{registry_of}
+use Rattle.hla_machine.specs.Registered.{registry_of}
 use Rattle.hla_accounts.specs.declared.offers.Offer.{Offer}
 use Rattle.hla_accounts.specs.Accounts.{offers_from}
 use Rattle.hla_verdicts.specs.Kept.{directory_kept}

@@ -2,7 +2,7 @@
 use Rattle.std.proofs.Common.{◌≡◌, ℕ, eqb}
 use Rattle.hla_base.specs.Tables.{when}
 use Rattle.hla_declaration.specs.Declarations.{declarations_of}
-use Rattle.hla_object_registry.specs.Registered.{registry_of}
+use Rattle.hla_machine.specs.Registered.{registry_of}
 use Rattle.hla_accounts.specs.Accounts.{offers_from}
 use Rattle.hla_verdicts.specs.Kept.{directory_kept}
 use Rattle.hla_checker.specs.Offering.{wanted_of}

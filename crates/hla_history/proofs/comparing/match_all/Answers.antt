@@ -1,5 +1,5 @@
 use Rattle.std.proofs.lemmas.Option.{slice_get-get_or, slice_get_past}
-use Rattle.hla_history.proofs.Records.Matching.{awaited_after, awaited_still, goes_on}
+use Rattle.hla_history.proofs.Records.{awaited_after, awaited_still, goes_on}
 use Rattle.hla_history.proofs.comparing.match_all.Goals as goal
 
 pub loop-record-preserved-then-place-transcripts : goal.loop-record-preserved-then-place-transcripts

@@ -1,6 +1,6 @@
 -- The event is in the first block where all later separators come after the key, and else among the later ones.
 use Rattle.std.proofs.Common.{◌≡◌, ◌++◌, None, Some, sym, ap, subst, ◌∙◌}
-use Rattle.hla_order_queues.specs.Queues.{find_event}
+use Rattle.hla_component_rules.specs.Queues.{find_event}
 use Rattle.hla_order_queues.specs.Kept.{key_of, events_of, AreAfter, AreBelowBlocks}
 use Rattle.hla_order_queues.proofs.Events.OrderLemmas.{parts_of}
 use Rattle.hla_order_queues.proofs.Events.RemovalLemmas.{find_event_behind, remove_event_before, remove_event_behind, All-remove_event}

@@ -1,6 +1,6 @@
 -- The next block's handles are put, until as many are as were asked for.
 use Rattle.std.proofs.Common.{◌≡◌, ◌++◌, ◌-◌, min, map, length, take, sym, ap, ◌∙◌, arith, refl}
-use Rattle.hla_order_queues.specs.Queues.{handles_of}
+use Rattle.hla_component_rules.specs.Queues.{handles_of}
 use Rattle.hla_order_queues.specs.Kept.{joined, events_of}
 use Rattle.hla_order_queues.specs.Places.{block_in, blocks_at}
 use Rattle.hla_order_queues.proofs.UnderSeparators.PlacesLemmas.{values_in}

@@ -1,6 +1,6 @@
 -- What was put and what is ahead make all.
 use Rattle.std.proofs.Common.{◌≡◌, ◌+◌, ◌≤◌, ◌++◌, map, take, vec_len, vec_capacity}
-use Rattle.hla_order_queues.specs.Queues.{handles_of}
+use Rattle.hla_component_rules.specs.Queues.{handles_of}
 use Rattle.hla_order_queues.specs.Kept.{joined, events_of}
 use Rattle.hla_order_queues.specs.Places.{block_in, blocks_at}
 use Rattle.hla_order_queues.proofs.separators.put_handles_of.Given as goal

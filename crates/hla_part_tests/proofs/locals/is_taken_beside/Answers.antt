@@ -3,7 +3,7 @@ use Rattle.std.proofs.lemmas.Bool.{ne_eqb}
 use Rattle.std.specs.Prelude.{option_copied}
 use Rattle.hla_base.specs.declared.content.Event.{Event}
 use Rattle.hla_base.specs.declared.number.EventHandle.{EventHandle}
-use Rattle.hla_order_queues.specs.Queues.{find_event}
+use Rattle.hla_component_rules.specs.Queues.{find_event}
 use Rattle.hla_part_tests.proofs.Waiting.{other_waits}
 use Rattle.hla_part_tests.proofs.locals.is_taken_beside.Goals as goal
 

@@ -21,7 +21,7 @@ returns-else-is_ok-clause-compared g c =
 pub returns-else-is_ok-clause-differs : goal.returns-else-is_ok-clause-differs
 returns-else-is_ok-clause-differs g c =
     subst (λ (l : LockedValue). IfErr c.settle-settled.result (λ u. (k : ℕ) → u.fault ≡ close_fault.Transcript k → DiffersFirst l.held.history c.args.lefts.items c.args.seat k)) c.self.view_is
-    (differs_at (λ u. u.fault) (λ k. DiffersFirst c.self.inside.shared.history c.args.lefts.items c.args.seat k) c.settle-settled.result c.settle-settled.ensures.differs)
+    (differs_at (λ u. u.fault) (λ k. DiffersFirst (g.H.History.value c.self.inside.shared).history c.args.lefts.items c.args.seat k) c.settle-settled.result c.settle-settled.ensures.differs)
 
 pub returns-in-Some-clause-first : goal.returns-in-Some-clause-first
 returns-in-Some-clause-first g c =

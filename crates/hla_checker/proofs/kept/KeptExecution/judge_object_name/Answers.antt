@@ -1,7 +1,7 @@
 use Rattle.std.proofs.Common.{◌≡◌, refl, ap, ◌∙◌}
 use Rattle.hla_machine.specs.declared.service.Service.TheVariants as services
 use Rattle.hla_machine.specs.declared.step.Answer.TheVariants as answers
-use Rattle.hla_object_registry.specs.Registered.{registry_of}
+use Rattle.hla_machine.specs.Registered.{registry_of}
 use Rattle.hla_verdicts.specs.Kept.{KeptValue, central_of}
 use Rattle.hla_verdicts.proofs.Steps.Endings.{looked_up}
 use Rattle.hla_checker.proofs.Verdicts.LookUps.{called_unchanged, object_name_look_up}

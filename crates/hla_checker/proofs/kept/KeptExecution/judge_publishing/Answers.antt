@@ -4,7 +4,7 @@ use Rattle.hla_base.specs.Tables.{upd2}
 use Rattle.hla_declaration.specs.Declarations.{DeclarationsValue, declarations_of}
 use Rattle.hla_machine.specs.declared.service.Service.TheVariants as services
 use Rattle.hla_machine.specs.Refusals.{no_attribute, no_object_class}
-use Rattle.hla_object_registry.specs.Registered.{registry_of}
+use Rattle.hla_machine.specs.Registered.{registry_of}
 use Rattle.hla_accounts.specs.Accounts.{central_with}
 use Rattle.hla_verdicts.specs.Kept.{KeptValue, central_of, directory_with, directory_of}
 use Rattle.hla_checker.proofs.Verdicts.Declarations.{caller_within, class_within, declared_consistent, done_judged, publishing_only}

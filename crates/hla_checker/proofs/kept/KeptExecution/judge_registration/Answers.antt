@@ -1,7 +1,7 @@
 use Rattle.std.proofs.Common.{◌≡◌, ℕ, List, Some, true, refl, sym, ap, subst, ◌∙◌}
 use mathlib.Core.Bool.{false≢true}
 use Rattle.hla_base.specs.RowRefusals.{first_fault}
-use Rattle.hla_object_registry.specs.Registered.{registry_of}
+use Rattle.hla_machine.specs.Registered.{registry_of}
 use Rattle.hla_machine.specs.Directory.{name_or_default}
 use Rattle.hla_machine.specs.Machine.{central_seen}
 use Rattle.hla_machine.specs.Refusals.{call_tests}

@@ -1,6 +1,6 @@
 use Rattle.std.proofs.Common.{sym, true, false, ◌∙◌}
 use Rattle.hla_base.specs.Tables.{numbers_below}
-use Rattle.hla_object_registry.specs.Registered.{registry_of}
+use Rattle.hla_machine.specs.Registered.{registry_of}
 use Rattle.hla_verdicts.specs.Kept.{KeptValue}
 use Rattle.hla_checker.proofs.Verdicts.LookUps.{any_found, none_found, named_refusal}
 use Rattle.hla_checker.proofs.kept.KeptExecution.object_named_fault.Goals as goal

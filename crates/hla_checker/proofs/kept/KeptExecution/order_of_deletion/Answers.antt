@@ -2,7 +2,7 @@ use Rattle.std.proofs.Common.{◌≡◌, ℕ, Option, None, sym, ap, ◌∙◌}
 use Rattle.std.specs.Option.{option_map_or}
 use Rattle.hla_catalogue.specs.Lookup.{deletion_privilege}
 use Rattle.hla_catalogue.specs.declared.declared.Order.TheVariants.{Receive}
-use Rattle.hla_object_registry.specs.Registered.{registry_of}
+use Rattle.hla_machine.specs.Registered.{registry_of}
 use Rattle.hla_machine.specs.Directory.{order_of_attribute}
 use Rattle.hla_verdicts.specs.Kept.{KeptValue, directory_of}
 use Rattle.hla_checker.proofs.kept.KeptExecution.order_of_deletion.Goals as goal

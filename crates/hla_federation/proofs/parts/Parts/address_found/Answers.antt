@@ -6,7 +6,7 @@ use Rattle.hla_base.specs.Tables.{numbers_below, upd, when}
 use Rattle.hla_null_message.specs.declared.message.Message.{Message}
 use Rattle.hla_null_message.specs.declared.message.Message.TheVariants as message
 use Rattle.hla_machine.specs.Directory.{Directory, discovery_of, discovery_at, with_subscribed}
-use Rattle.hla_object_registry.specs.Registered.{registry_of}
+use Rattle.hla_machine.specs.Registered.{registry_of}
 use Rattle.hla_federation.specs.FederationValue.{FederationValue}
 use Rattle.hla_execution.specs.MemberValue.{item}
 use Rattle.hla_federation.specs.Steps.State.{state_of}

@@ -3,7 +3,7 @@ use Rattle.std.specs.List.{filter_map}
 use Rattle.hla_base.specs.Tables.{numbers_below, when}
 use Rattle.hla_null_message.specs.declared.message.Message.TheVariants as message
 use Rattle.hla_machine.specs.Directory.{discovery_of, with_subscribed}
-use Rattle.hla_object_registry.specs.Registered.{registry_of}
+use Rattle.hla_machine.specs.Registered.{registry_of}
 use Rattle.hla_execution.specs.MemberValue.{item}
 use Rattle.hla_federation.specs.Steps.State.{state_of}
 use Rattle.hla_federation.proofs.parts.Parts.address_found.Given as goal

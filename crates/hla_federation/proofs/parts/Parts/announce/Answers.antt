@@ -2,8 +2,8 @@ use Rattle.std.proofs.Common.{◌≡◌, ℕ, Option, None, Some, Result, inr, r
 use Rattle.hla_base.specs.declared.fault.Fault.{Fault}
 use Rattle.hla_machine.specs.declared.step.Step.TheVariants.{Announce}
 use Rattle.hla_declaration.specs.Declarations as declared
-use Rattle.hla_object_registry.specs.Registered.{registry_of}
-use Rattle.hla_local.specs.LocalValue.{LocalValue}
+use Rattle.hla_machine.specs.Registered.{registry_of}
+use Rattle.hla_component_rules.specs.LocalValue.{LocalValue}
 use Rattle.hla_machine.specs.Refusals.{refusal}
 use Rattle.hla_machine.specs.declared.step.Answer.TheVariants as answer
 use Rattle.hla_components.specs.Components.{Components}

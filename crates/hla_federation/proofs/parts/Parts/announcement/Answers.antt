@@ -3,10 +3,10 @@ use Rattle.std.proofs.lemmas.Bool.Decides.{nat_tests}
 use Rattle.hla_base.specs.Rows.{is_regulator}
 use Rattle.hla_base.specs.declared.row.TimeRow.{TimeRow}
 use Rattle.hla_declaration.specs.Declarations as declared
-use Rattle.hla_object_registry.specs.Registered.{registry_of}
-use Rattle.hla_local.specs.LocalValue.{LocalValue}
-use Rattle.hla_local.specs.Picking.{least_bound}
-use Rattle.hla_local.specs.Promising.{promise_of}
+use Rattle.hla_machine.specs.Registered.{registry_of}
+use Rattle.hla_component_rules.specs.LocalValue.{LocalValue}
+use Rattle.hla_component_rules.specs.Picking.{least_bound}
+use Rattle.hla_component_rules.specs.Promising.{promise_of}
 use Rattle.hla_synchronization.specs.OpenPoints.{points_of}
 use Rattle.hla_federation.specs.FederationValue.{FederationValue}
 use Rattle.hla_execution.specs.MemberValue.{members_of}

@@ -2,7 +2,7 @@ use Rattle.std.proofs.Common.{◌≡◌, None, Result, List, inl, inr, refl, sym
 use Rattle.hla_base.specs.declared.fault.Fault.{Fault}
 use Rattle.hla_declaration.specs.Declarations as declared
 use Rattle.hla_object_registry.specs.Queries.{is_known_in}
-use Rattle.hla_object_registry.specs.Registered.{Registered, RegistryValue, registry_of}
+use Rattle.hla_machine.specs.Registered.{Registered, RegistryValue, registry_of}
 use Rattle.hla_machine.specs.Refusals.{refusal, tests}
 use Rattle.hla_machine.specs.declared.service.Service.TheVariants as service
 use Rattle.hla_machine.specs.declared.step.Answer.{Answer}

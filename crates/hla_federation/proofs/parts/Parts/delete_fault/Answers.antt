@@ -2,7 +2,7 @@ use Rattle.std.proofs.Common.{◌≡◌, eqb, true, ap, sym, refl, ◌∙◌, ar
 use Rattle.std.proofs.lemmas.Bool.Decides.{nat_tests}
 use Rattle.hla_catalogue.specs.declared.declared.Order.TheVariants.{Timestamp}
 use Rattle.hla_object_registry.specs.Queries.{is_known_in}
-use Rattle.hla_object_registry.specs.Registered.{registry_of}
+use Rattle.hla_machine.specs.Registered.{registry_of}
 use Rattle.hla_machine.specs.Directory.{ADeletion, deletion_sent, is_of_order, order_of_deletion}
 use Rattle.hla_federation.specs.FederationValue.{FederationValue}
 use Rattle.hla_execution.specs.MemberValue.{members_of}

@@ -3,7 +3,7 @@ use Rattle.std.proofs.Common.{◌≡◌, ◌+◌, ◌≤◌, [], ◌++◌, lengt
 use Rattle.std.proofs.lemmas.Bool.Decides.{nat_tests}
 use Rattle.hla_base.specs.Tables.{upd, max_time}
 use Rattle.hla_catalogue.specs.declared.declared.Order.{Order}
-use Rattle.hla_object_registry.specs.Registered.{RegistryValue, registry_of}
+use Rattle.hla_machine.specs.Registered.{RegistryValue, registry_of}
 use Rattle.hla_machine.specs.Directory.{Outgoing, ADeletion, deletion_sent, order_of_deletion}
 use Rattle.hla_machine.specs.Refusals.{refusal, tests}
 use Rattle.hla_machine.specs.declared.service.Service.TheVariants as service

@@ -11,8 +11,8 @@ use Rattle.hla_machine.specs.declared.step.Step.TheVariants.{Call}
 use Rattle.hla_components.specs.Component.{regulation_entry}
 use Rattle.hla_components.specs.Next.{Outcomes, with_regulation_enabled}
 use Rattle.hla_declaration.specs.Declarations as declared
-use Rattle.hla_object_registry.specs.Registered.{registry_of}
-use Rattle.hla_local.specs.LocalValue.{LocalValue}
+use Rattle.hla_machine.specs.Registered.{registry_of}
+use Rattle.hla_component_rules.specs.LocalValue.{LocalValue}
 use Rattle.hla_machine.specs.Refusals.{refusal}
 use Rattle.hla_machine.specs.declared.step.Answer.TheVariants as answer
 use Rattle.hla_components.specs.Next.{next, components_seen}

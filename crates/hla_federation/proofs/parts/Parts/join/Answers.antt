@@ -3,7 +3,7 @@ use Rattle.hla_machine.specs.declared.step.Step.TheVariants.{Join}
 use Rattle.hla_machine.specs.declared.step.Answer.TheVariants as answer
 use Rattle.hla_declaration.specs.Declarations as declared
 use Rattle.hla_declaration.specs.Declarations.{DeclarationsValue}
-use Rattle.hla_object_registry.specs.Registered.{registry_of}
+use Rattle.hla_machine.specs.Registered.{registry_of}
 use Rattle.hla_execution.specs.MemberValue.{MemberValue, MemberTables, members_of}
 use Rattle.hla_members.specs.Members.{with_member_admitted}
 use Rattle.hla_components.specs.Next.{answer_outcome}

@@ -2,7 +2,7 @@ use Rattle.std.proofs.Common.{◌≡◌, ◌≤◌, ℕ, List, [], Some, Bool, t
 use Rattle.hla_base.specs.Tables.{upd2}
 use Rattle.hla_declaration.specs.Declarations as declared
 use Rattle.hla_machine.specs.Directory.{Directory, discovery_of, with_subscribed}
-use Rattle.hla_object_registry.specs.Registered.{Registered, RegistryValue, registry_of}
+use Rattle.hla_machine.specs.Registered.{Registered, RegistryValue, registry_of}
 use Rattle.hla_object_registry.proofs.Unregistered.{no_object_above}
 use Rattle.hla_synchronization.specs.OpenPoints.{points_of}
 use Rattle.hla_federation.specs.FederationValue.{FederationValue}

@@ -1,6 +1,6 @@
 use Rattle.std.proofs.Common.{◌≡◌, ℕ, List, Some, is_some}
 use Rattle.hla_machine.specs.Directory.{discovery_of, with_subscribed}
-use Rattle.hla_object_registry.specs.Registered.{registry_of}
+use Rattle.hla_machine.specs.Registered.{registry_of}
 use Rattle.hla_federation.specs.Steps.State.{state_of}
 use Rattle.hla_federation.proofs.Steps.FoundObjects.{known_below}
 use Rattle.hla_federation.proofs.parts.Parts.make_found_known.Given as goal

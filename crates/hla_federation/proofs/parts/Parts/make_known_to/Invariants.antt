@@ -1,5 +1,5 @@
 use Rattle.std.proofs.Common.{◌≡◌, drop}
-use Rattle.hla_object_registry.specs.Registered.{registry_of}
+use Rattle.hla_machine.specs.Registered.{registry_of}
 use Rattle.hla_federation.specs.Steps.Discovering.{with_known_among}
 use Rattle.hla_federation.proofs.parts.Parts.make_known_to.Given as goal
 

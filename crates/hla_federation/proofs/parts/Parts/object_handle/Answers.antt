@@ -2,7 +2,7 @@ use Rattle.std.proofs.Common.{ℕ, refl, sym, ap, ◌∙◌, Option}
 use Rattle.hla_machine.specs.declared.service.Service.TheVariants as service
 use Rattle.hla_machine.specs.declared.step.Step.TheVariants.{Call}
 use Rattle.hla_declaration.specs.Declarations as declared
-use Rattle.hla_object_registry.specs.Registered.{registry_of}
+use Rattle.hla_machine.specs.Registered.{registry_of}
 use Rattle.hla_execution.specs.MemberValue.{members_of}
 use Rattle.hla_components.specs.Next.{handle_outcome}
 use Rattle.hla_synchronization.specs.OpenPoints.{points_of}

@@ -2,7 +2,7 @@
 use Rattle.std.proofs.Common.{◌≡◌, List, [], ◌∷◌, ◌++◌, ap, subst, ◌∙◌}
 use Rattle.hla_synchronization.specs.declared.open_points.OpenPoint.{OpenPoint}
 use Rattle.hla_declaration.specs.Declarations as declared
-use Rattle.hla_object_registry.specs.Registered.{registry_of}
+use Rattle.hla_machine.specs.Registered.{registry_of}
 use Rattle.hla_base.specs.declared.notice.NoticeKind.TheVariants as kind
 use Rattle.hla_synchronization.specs.Points.{notice, new_point}
 use Rattle.hla_synchronization.specs.OpenPoints.{points_of}

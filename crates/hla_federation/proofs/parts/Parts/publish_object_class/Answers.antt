@@ -8,7 +8,7 @@ use Rattle.hla_declaration.specs.Declarations.{DeclarationsValue}
 use Rattle.hla_machine.specs.declared.service.Service.TheVariants as service
 use Rattle.hla_machine.specs.declared.step.Step.TheVariants.{Call}
 use Rattle.hla_machine.specs.declared.step.Answer.TheVariants as answer
-use Rattle.hla_object_registry.specs.Registered.{registry_of}
+use Rattle.hla_machine.specs.Registered.{registry_of}
 use Rattle.hla_components.specs.Next.{answer_outcome}
 use Rattle.hla_federation.specs.Steps.State.{state_from}
 use Rattle.hla_federation.proofs.parts.Parts.publish_object_class.Goals as goal

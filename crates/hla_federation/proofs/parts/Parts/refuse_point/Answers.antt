@@ -1,7 +1,7 @@
 -- The caller alone is told.
 use Rattle.std.proofs.Common.{◌≡◌, [], ◌∷◌, ap, subst, ◌∙◌}
 use Rattle.hla_declaration.specs.Declarations as declared
-use Rattle.hla_object_registry.specs.Registered.{registry_of}
+use Rattle.hla_machine.specs.Registered.{registry_of}
 use Rattle.hla_base.specs.declared.notice.NoticeKind.TheVariants as kind
 use Rattle.hla_synchronization.specs.Points.{notice}
 use Rattle.hla_synchronization.specs.OpenPoints.{points_of}

@@ -3,7 +3,7 @@ use Rattle.std.proofs.lemmas.Bool.Decides.{nat_tests}
 use Rattle.hla_base.specs.Limits.{max_name, max_objects}
 use Rattle.hla_machine.specs.Directory.{name_or_default}
 use Rattle.hla_machine.specs.Refusals.{is_length_in}
-use Rattle.hla_object_registry.specs.Registered.{registry_of}
+use Rattle.hla_machine.specs.Registered.{registry_of}
 use Rattle.hla_federation.proofs.parts.Parts.register_fault.Goals as goal
 use Rattle.hla_federation.proofs.parts.Parts.register_fault.Goals.{in-Some, in-None}
 

@@ -6,7 +6,7 @@ use Rattle.hla_machine.specs.declared.service.Service.TheVariants as service
 use Rattle.hla_machine.specs.declared.step.Step.TheVariants as step
 use Rattle.hla_machine.specs.Directory.{default_name, name_or_default, with_object}
 use Rattle.hla_machine.specs.Refusals.{refusal, is_name_used}
-use Rattle.hla_object_registry.specs.Registered.{Registered, RegistryValue, registry_of}
+use Rattle.hla_machine.specs.Registered.{Registered, RegistryValue, registry_of}
 use Rattle.hla_synchronization.specs.OpenPoints.{points_of}
 use Rattle.hla_federation.specs.contracts.parts.Parts.{the_view}
 use Rattle.hla_members.specs.declared.direction.Direction.TheVariants.{From}

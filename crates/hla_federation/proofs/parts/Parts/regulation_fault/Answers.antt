@@ -4,7 +4,7 @@ use Rattle.hla_base.specs.declared.row.TimeRow.{TimeRow}
 use Rattle.hla_base.specs.Rows.{bar_of}
 use Rattle.hla_base.specs.RowRefusals.{first_fault, regulation_tests}
 use Rattle.hla_base.specs.Tables.{greatest}
-use Rattle.hla_local.specs.LocalValue.{LocalValue}
+use Rattle.hla_component_rules.specs.LocalValue.{LocalValue}
 use Rattle.hla_machine.specs.Central.{low_entry}
 use Rattle.hla_machine.specs.Refusals.{refusal}
 use Rattle.hla_machine.specs.declared.service.Service.TheVariants as service

@@ -1,7 +1,7 @@
 use Rattle.hla_base.specs.Limits.{largest_number}
 use Rattle.std.proofs.Common.{◌≡◌, ◌+◌, ◌≤◌, ◌++◌, None, List, [], ℕ, Bool, false, length, sym, ap, subst, ◌∙◌, arith}
 use Rattle.hla_declaration.specs.Declarations as declared
-use Rattle.hla_object_registry.specs.Registered.{registry_of, RegistryValue}
+use Rattle.hla_machine.specs.Registered.{registry_of, RegistryValue}
 use Rattle.hla_machine.specs.declared.service.Service.TheVariants as service
 use Rattle.hla_machine.specs.declared.step.Step.TheVariants.{Call}
 use Rattle.hla_machine.specs.declared.step.Answer.TheVariants as answer

@@ -3,7 +3,7 @@ use Rattle.std.proofs.lemmas.Bool.Decides.{nat_tests}
 use Rattle.hla_base.specs.declared.row.TimeRow.{TimeRow}
 use Rattle.hla_base.specs.Rows.{is_enabled, least_stamp}
 use Rattle.hla_retraction.specs.SentEvents.{may_retract}
-use Rattle.hla_local.specs.LocalValue.{LocalValue}
+use Rattle.hla_component_rules.specs.LocalValue.{LocalValue}
 use Rattle.hla_federation.specs.FederationValue.{FederationValue}
 use Rattle.hla_execution.specs.MemberValue.{members_of}
 use Rattle.hla_federation.specs.Steps.State.{state_of}

@@ -8,7 +8,7 @@ use Rattle.hla_machine.specs.declared.step.Step.TheVariants as step
 use Rattle.hla_machine.specs.declared.step.Answer.TheVariants as answer
 use Rattle.hla_machine.specs.Directory.{with_discoveries_made, discoveries_of, with_subscribed}
 use Rattle.hla_machine.specs.Refusals.{refusal}
-use Rattle.hla_object_registry.specs.Registered.{registry_of}
+use Rattle.hla_machine.specs.Registered.{registry_of}
 use Rattle.hla_synchronization.specs.OpenPoints.{points_of}
 use Rattle.hla_federation.specs.contracts.parts.Parts.{the_view}
 use Rattle.hla_members.specs.declared.direction.Direction.TheVariants.{To}

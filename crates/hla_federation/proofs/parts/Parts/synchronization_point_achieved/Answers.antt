@@ -10,7 +10,7 @@ use Rattle.hla_members.proofs.MemberTables.{past}
 use Rattle.hla_components.specs.Components.{Components}
 use Rattle.hla_components.specs.Next.{answer_outcome}
 use Rattle.hla_declaration.specs.Declarations as declared
-use Rattle.hla_object_registry.specs.Registered.{registry_of}
+use Rattle.hla_machine.specs.Registered.{registry_of}
 use Rattle.hla_synchronization.specs.Points.{Point, with_point, achieved_by, closing, left_open, closing_of}
 use Rattle.hla_synchronization.specs.OpenPoints.{points_of, members_in}
 use Rattle.hla_members.specs.Telling.{with_all_told}

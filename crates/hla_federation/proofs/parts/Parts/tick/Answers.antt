@@ -4,7 +4,7 @@ use Rattle.hla_machine.specs.declared.step.Step.TheVariants.{Tick}
 use Rattle.hla_base.specs.declared.fault.Fault.{Fault}
 use Rattle.hla_machine.specs.declared.step.Answer.TheVariants as answer
 use Rattle.hla_declaration.specs.Declarations as declared
-use Rattle.hla_object_registry.specs.Registered.{registry_of}
+use Rattle.hla_machine.specs.Registered.{registry_of}
 use Rattle.hla_lbts.specs.Peers.{peers_of}
 use Rattle.hla_components.specs.Next.{Outcomes, next, components_seen}
 use Rattle.hla_machine.specs.Refusals.{refusal}
@@ -15,7 +15,7 @@ use Rattle.hla_execution.specs.MemberValue.{MemberTables, members_of, MemberValu
 use Rattle.hla_federation.specs.Steps.Answering.{answered_as}
 use Rattle.hla_federation.specs.Steps.State.{state_of, state_from, IsUnmet, EndsChosen}
 use Rattle.hla_federation.specs.Steps.Synchronizing.{points_told}
-use Rattle.hla_local.specs.Picking.{picked_by, local_pick}
+use Rattle.hla_component_rules.specs.Picking.{picked_by, local_pick}
 use Rattle.hla_federation.proofs.Steps.Notifying.{told_as}
 use Rattle.hla_federation.proofs.Steps.Doing.{does_next}
 use Rattle.hla_federation.specs.Steps.Memory.{takes_memory}

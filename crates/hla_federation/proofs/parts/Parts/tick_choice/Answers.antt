@@ -4,11 +4,11 @@ use Rattle.hla_base.specs.declared.fault.Fault.{Fault}
 use Rattle.hla_base.specs.declared.row.TimeRow.{TimeRow}
 use Rattle.hla_base.specs.Tables.{forever}
 use Rattle.hla_declaration.specs.Declarations as declared
-use Rattle.hla_object_registry.specs.Registered.{registry_of}
-use Rattle.hla_order_queues.specs.Queues.{handles_of}
-use Rattle.hla_local.specs.LocalValue.{LocalValue}
-use Rattle.hla_local.specs.declared.picked.NextPick.TheVariants as following
-use Rattle.hla_local.specs.Picking.{Pick, next_pick_by, local_pick, is_below}
+use Rattle.hla_machine.specs.Registered.{registry_of}
+use Rattle.hla_component_rules.specs.Queues.{handles_of}
+use Rattle.hla_component_rules.specs.LocalValue.{LocalValue}
+use Rattle.hla_component_rules.specs.declared.picked.NextPick.TheVariants as following
+use Rattle.hla_component_rules.specs.Picking.{Pick, next_pick_by, local_pick, is_below}
 use Rattle.hla_machine.specs.declared.step.Choice.{Choice}
 use Rattle.hla_machine.specs.declared.step.Choice.TheVariants as choice
 use Rattle.hla_machine.specs.declared.step.Step.TheVariants.{Tick}

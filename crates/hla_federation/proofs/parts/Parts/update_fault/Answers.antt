@@ -3,7 +3,7 @@ use Rattle.std.specs.List.{list_any}
 use Rattle.hla_base.specs.declared.content.HandleValuePair.{HandleValuePair}
 use Rattle.hla_catalogue.specs.Lookup.{has_attribute}
 use Rattle.hla_object_registry.specs.Queries.{is_known_in}
-use Rattle.hla_object_registry.specs.Registered.{registry_of}
+use Rattle.hla_machine.specs.Registered.{registry_of}
 use Rattle.hla_machine.specs.Directory.{update_sent}
 use Rattle.hla_machine.specs.Refusals.{is_published}
 use Rattle.hla_federation.specs.FederationValue.{FederationValue}

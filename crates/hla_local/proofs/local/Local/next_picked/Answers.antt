@@ -1,6 +1,6 @@
 use Rattle.std.proofs.Common.{sym, ap, ◌∙◌}
 use Rattle.std.specs.Prelude.{option_copied}
-use Rattle.hla_local.specs.declared.picked.Picked.TheVariants as picked
+use Rattle.hla_component_rules.specs.declared.picked.Picked.TheVariants as picked
 use Rattle.hla_local.proofs.Foreseen.{ordered_ahead}
 use Rattle.hla_local.proofs.local.Local.next_picked.Goals as goal
 

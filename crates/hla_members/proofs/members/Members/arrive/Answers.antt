@@ -1,6 +1,6 @@
 use Rattle.std.proofs.Common.{◌-◌, [], set, drop, ap, sym, subst, ◌∙◌}
 use Rattle.hla_base.specs.Tables.{upd}
-use Rattle.hla_local.specs.LocalValue.{LocalValue}
+use Rattle.hla_component_rules.specs.LocalValue.{LocalValue}
 use Rattle.hla_members.specs.Members.{arrival_takes_memory, HasAccepted, with_arrival}
 use Rattle.hla_execution.specs.MemberValue.{item, MemberValue, MemberTables, members_of}
 use Rattle.hla_members.proofs.Rooms.{on_ok, on_err, on_both, read_shown, set_shown, same_shown, within_shown}

@@ -1,8 +1,8 @@
 use Rattle.std.proofs.Common.{◌≡◌, ◌+◌, ℕ, cond, eqb, true, false, Bool, length, refl, sym, ap, ◌∙◌, arith}
 use Rattle.std.proofs.lemmas.Bool.Decides.{nat_tests}
 use Rattle.hla_base.specs.Rows.{bar_of}
-use Rattle.hla_local.specs.LocalValue.{LocalValue}
-use Rattle.hla_local.specs.Promising.{entry_for}
+use Rattle.hla_component_rules.specs.LocalValue.{LocalValue}
+use Rattle.hla_component_rules.specs.Promising.{entry_for}
 use Rattle.hla_members.specs.Changes.{entry_by}
 use Rattle.hla_execution.specs.MemberValue.{members_of}
 use Rattle.hla_members.proofs.Entries.{greatest_start, greatest_more, greatest_end}

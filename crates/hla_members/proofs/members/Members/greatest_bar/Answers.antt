@@ -1,6 +1,6 @@
 use Rattle.std.proofs.Common.{◌+◌, length, refl, ap, ◌∙◌, arith}
 use Rattle.hla_base.specs.Rows.{bar_of}
-use Rattle.hla_local.specs.LocalValue.{LocalValue}
+use Rattle.hla_component_rules.specs.LocalValue.{LocalValue}
 use Rattle.hla_execution.specs.MemberValue.{members_of}
 use Rattle.hla_members.proofs.Entries.{greatest_start, greatest_more, greatest_end}
 use Rattle.hla_members.proofs.members.Members.greatest_bar.Goals as goal

@@ -2,7 +2,7 @@ use Rattle.std.proofs.Common.{◌+◌, ◌≤◌, ◌<◌, length, refl, sym, ap
 use Rattle.std.proofs.Math.Path.{fun_ext}
 use Rattle.hla_lbts.specs.Peers.{PeersValue}
 use Rattle.hla_base.specs.Tables.{forever}
-use Rattle.hla_local.specs.LocalValue.{LocalValue}
+use Rattle.hla_component_rules.specs.LocalValue.{LocalValue}
 use Rattle.hla_execution.specs.MemberValue.{MemberValue, members_of}
 use Rattle.hla_members.specs.Rooms.{RoomyMember}
 use Rattle.hla_members.proofs.Rooms.{read_shown}

@@ -1,5 +1,5 @@
 use Rattle.std.proofs.Common.{◌-◌, set, sym, ap, ◌∙◌}
-use Rattle.hla_local.specs.Picking.{picked_by, local_pick, local_picking}
+use Rattle.hla_component_rules.specs.Picking.{picked_by, local_pick, local_picking}
 use Rattle.hla_components.specs.Locals.{callback_given}
 use Rattle.hla_execution.specs.MemberValue.{MemberValue, members_of}
 use Rattle.hla_members.proofs.Rooms.{on_ok, on_err, if_ok, read_shown, set_shown, same_shown, within_shown}

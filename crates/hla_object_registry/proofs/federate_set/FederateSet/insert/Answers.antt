@@ -1,6 +1,6 @@
 use Rattle.std.proofs.Common.{ap, ◌∙◌, true, arith}
 use Rattle.hla_base.specs.Tables.{upd}
-use Rattle.hla_object_registry.specs.Registered.{is_in}
+use Rattle.hla_machine.specs.Registered.{is_in}
 use Rattle.hla_object_registry.proofs.Items.{is_in-set}
 use Rattle.hla_object_registry.proofs.federate_set.FederateSet.insert.Goals as goal
 

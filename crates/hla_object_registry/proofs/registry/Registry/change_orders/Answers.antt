@@ -6,7 +6,7 @@ use Rattle.hla_orders.specs.Orders.{orders_given}
 use Rattle.std.specs.Map.{values_of}
 use Rattle.hla_object_registry.specs.declared.entry.Entry.{Entry}
 use Rattle.hla_object_registry.specs.Queries.{with_orders}
-use Rattle.hla_object_registry.specs.Registered.{registry_of}
+use Rattle.hla_machine.specs.Registered.{registry_of}
 use Rattle.hla_object_registry.specs.Entries.{registered_objects, AreOwned}
 use Rattle.hla_object_registry.proofs.EntryLemmas.{Entries, still_few, place_within, entry_reordered, entry_orders, entry_same}
 use Rattle.hla_object_registry.proofs.registry.Registry.change_orders.Goals as goal

@@ -1,7 +1,7 @@
 use Rattle.std.proofs.Common.{◌+◌, sym, ◌∷◌, [], length, filter, ap, ◌∙◌, refl, arith}
 use Rattle.std.proofs.lemmas.List.{length-append}
 use Rattle.hla_base.specs.Tables.{numbers_below}
-use Rattle.hla_object_registry.specs.Registered.{registry_of}
+use Rattle.hla_machine.specs.Registered.{registry_of}
 use Rattle.hla_object_registry.specs.Queries.{is_object_of}
 use Rattle.hla_object_registry.proofs.Numbers.{filter_first, filter_more, filter_same}
 use Rattle.hla_object_registry.proofs.registry.Registry.count_owned_by.Goals as goal

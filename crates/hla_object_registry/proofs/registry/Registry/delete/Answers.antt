@@ -1,6 +1,6 @@
 use Rattle.std.proofs.Common.{length, false, ap, refl, sym, subst, ◌∙◌, arith}
 use Rattle.hla_base.specs.Tables.{upd}
-use Rattle.hla_object_registry.specs.Registered.{registry_of}
+use Rattle.hla_machine.specs.Registered.{registry_of}
 use Rattle.hla_object_registry.specs.Entries.{registered_objects, AreOwned}
 use Rattle.hla_object_registry.proofs.EntryLemmas.{still_few, place_within, entry_deleted}
 use Rattle.hla_object_registry.proofs.Owners.{owned_changed}

@@ -1,5 +1,5 @@
 use Rattle.std.proofs.Common.{◌<◌, length, ap, sym, subst, ◌∙◌, arith}
-use Rattle.hla_object_registry.specs.Registered.{registry_of}
+use Rattle.hla_machine.specs.Registered.{registry_of}
 use Rattle.hla_object_registry.specs.Entries.{AreOwned}
 use Rattle.hla_object_registry.specs.Queries.{without_owned}
 use Rattle.hla_object_registry.proofs.EntryLemmas.{length-registered, entry_withdrawn}

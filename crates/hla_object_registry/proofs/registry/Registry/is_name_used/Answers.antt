@@ -1,5 +1,5 @@
 use Rattle.std.proofs.Common.{◌≡◌, ℕ, Option, Some, None, is_some, List, sym, ◌∙◌, MatchOption}
-use Rattle.hla_object_registry.specs.Registered.{Registered, registry_of}
+use Rattle.hla_machine.specs.Registered.{Registered, registry_of}
 use Rattle.hla_object_registry.specs.Queries.{is_name_used_in}
 use Rattle.hla_object_registry.specs.Entries.{IsUnused, IsNumberOf}
 use Rattle.hla_object_registry.proofs.NameLemmas.{used, not_used}

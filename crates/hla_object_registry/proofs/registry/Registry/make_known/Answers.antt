@@ -1,6 +1,6 @@
 use Rattle.std.proofs.Common.{true, ap, sym, subst, ◌∙◌}
 use Rattle.hla_base.specs.Tables.{upd2}
-use Rattle.hla_object_registry.specs.Registered.{registry_of}
+use Rattle.hla_machine.specs.Registered.{registry_of}
 use Rattle.hla_object_registry.specs.Entries.{AreOwned}
 use Rattle.hla_object_registry.proofs.EntryLemmas.{still_few, place_within, entry_known}
 use Rattle.hla_object_registry.proofs.registry.Registry.make_known.Goals as goal

@@ -1,5 +1,5 @@
 use Rattle.std.proofs.Common.{◌+◌, subst, List}
-use Rattle.hla_object_registry.specs.Registered.{Registered}
+use Rattle.hla_machine.specs.Registered.{Registered}
 use Rattle.hla_object_registry.specs.Entries.{IsNumberOf, IsUnused}
 use Rattle.hla_object_registry.proofs.NameLemmas.{found_at, missing, none_from}
 use Rattle.hla_object_registry.proofs.registry.Registry.number_of.Goals as goal

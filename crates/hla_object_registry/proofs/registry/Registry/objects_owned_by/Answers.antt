@@ -1,5 +1,5 @@
 use Rattle.std.proofs.Common.{sym, ◌++◌, ◌∷◌, [], ap, ◌∙◌, refl}
-use Rattle.hla_object_registry.specs.Registered.{registry_of}
+use Rattle.hla_machine.specs.Registered.{registry_of}
 use Rattle.hla_object_registry.specs.Queries.{is_object_of}
 use Rattle.hla_object_registry.proofs.Numbers.{filter_first, filter_more, filter_same}
 use Rattle.hla_object_registry.proofs.registry.Registry.objects_owned_by.Goals as goal

@@ -1,6 +1,6 @@
 use Rattle.std.proofs.Common.{◌≡◌, filter}
 use Rattle.hla_base.specs.Tables.{numbers_below}
-use Rattle.hla_object_registry.specs.Registered.{registry_of}
+use Rattle.hla_machine.specs.Registered.{registry_of}
 use Rattle.hla_object_registry.specs.Queries.{is_object_of}
 use Rattle.hla_object_registry.proofs.registry.Registry.objects_owned_by.Given as goal
 

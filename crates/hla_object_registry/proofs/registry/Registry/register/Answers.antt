@@ -1,5 +1,5 @@
 use Rattle.std.proofs.Common.{sym, subst, ◌∙◌}
-use Rattle.hla_object_registry.specs.Registered.{registry_of}
+use Rattle.hla_machine.specs.Registered.{registry_of}
 use Rattle.hla_object_registry.specs.Entries.{AreOwned}
 use Rattle.hla_object_registry.proofs.Owners.{owned_with}
 use Rattle.hla_object_registry.proofs.EntryLemmas.{entry_added, one_longer}

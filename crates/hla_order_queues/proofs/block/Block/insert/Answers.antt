@@ -3,7 +3,7 @@ use Rattle.std.proofs.Common.{◌≤◌, length, not, ap, ◌∙◌, rules, arit
 use Rattle.std.specs.List.{insert}
 use Rattle.std.proofs.lemmas.List.Sorted.{IsPartitionPoint-from_clause}
 use Rattle.hla_base.specs.declared.content.Event.{Event}
-use Rattle.hla_order_queues.specs.Queues.{insert_event}
+use Rattle.hla_component_rules.specs.Queues.{insert_event}
 use Rattle.hla_order_queues.specs.Kept.{is_key_before}
 use Rattle.hla_order_queues.proofs.Events.PlaceLemmas.{partitioned, point_is, falls_ordered, inserted_there}
 use Rattle.hla_order_queues.proofs.block.Block.insert.Goals as goal

@@ -1,6 +1,6 @@
 -- One handle after another is put.
 use Rattle.std.proofs.Common.{◌≡◌, ◌++◌, take, refl, ap, ◌∙◌, arith, vec_len, vec_capacity}
-use Rattle.hla_order_queues.specs.Queues.{handles_of}
+use Rattle.hla_component_rules.specs.Queues.{handles_of}
 use Rattle.hla_order_queues.proofs.UnderSeparators.StepLemmas.{no_handles_yet, one_more_handle, no_more_handles}
 use Rattle.hla_order_queues.proofs.block.Block.put_handles.Goals as goal
 use Rattle.hla_order_queues.proofs.block.Block.put_handles.Goals.{in-Some, in_default}

@@ -1,6 +1,6 @@
 -- As many as were gone through are put.
 use Rattle.std.proofs.Common.{◌≡◌, ◌+◌, ◌≤◌, ◌++◌, take, vec_len, vec_capacity}
-use Rattle.hla_order_queues.specs.Queues.{handles_of}
+use Rattle.hla_component_rules.specs.Queues.{handles_of}
 use Rattle.hla_order_queues.proofs.block.Block.put_handles.Given as goal
 
 abbrev pub invariant-loop-i : goal.invariant-loop-i

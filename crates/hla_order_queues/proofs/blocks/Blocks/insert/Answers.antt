@@ -1,7 +1,7 @@
 -- The event goes into its block, unless that is full.
 use Rattle.std.proofs.Common.{◌≡◌, List, Ok, sym, subst}
 use Rattle.hla_base.specs.declared.content.Event.{Event}
-use Rattle.hla_order_queues.specs.Queues.{insert_event}
+use Rattle.hla_component_rules.specs.Queues.{insert_event}
 use Rattle.hla_order_queues.specs.declared.key.EventKey.{EventKey}
 use Rattle.hla_order_queues.specs.Kept.{events_of, AreBelowBlocks}
 use Rattle.hla_order_queues.proofs.UnderSeparators.PutLemmas.{IsPut, put_home}

@@ -2,7 +2,7 @@
 use Rattle.std.proofs.Common.{◌≡◌, List, ap, subst, sym, ◌∙◌}
 use Rattle.std.specs.Result.{OnOk, OnErr}
 use Rattle.hla_base.specs.declared.content.Event.{Event}
-use Rattle.hla_order_queues.specs.Queues.{insert_event}
+use Rattle.hla_component_rules.specs.Queues.{insert_event}
 use Rattle.hla_order_queues.specs.declared.key.EventKey.{EventKey}
 use Rattle.hla_order_queues.specs.Kept.{events_of, AreBelowBlocks, IsPlace}
 use Rattle.hla_order_queues.proofs.UnderSeparators.PutLemmas.{IsPut, put_under, ordered_under}

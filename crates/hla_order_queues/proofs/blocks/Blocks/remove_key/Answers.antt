@@ -2,7 +2,7 @@
 use Rattle.std.proofs.Common.{List, ap, subst, sym, ◌∙◌}
 use Rattle.hla_base.specs.declared.content.Event.{Event}
 use Rattle.hla_order_queues.specs.declared.key.EventKey.{EventKey}
-use Rattle.hla_order_queues.specs.Queues.{find_event, remove_event}
+use Rattle.hla_component_rules.specs.Queues.{find_event, remove_event}
 use Rattle.hla_order_queues.proofs.Events.RemovalLemmas.{IsInOrder-remove_event}
 use Rattle.hla_order_queues.specs.Kept.{events_of, AreAfter, AreBelowBlocks, IsInOrder}
 use Rattle.hla_order_queues.proofs.ByName.StampLemmas.{HasKey, key_is_there}

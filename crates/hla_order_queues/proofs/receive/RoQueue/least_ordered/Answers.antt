@@ -1,6 +1,6 @@
 -- Step by step the least so far and what is to come give the least of all.
 use Rattle.std.proofs.Common.{sym, ◌∙◌, inl, inr, arith, ap}
-use Rattle.hla_order_queues.specs.Queues.{least_ordered}
+use Rattle.hla_component_rules.specs.Queues.{least_ordered}
 use Rattle.hla_order_queues.proofs.Events.QueueLemmas.{none_yet, least_taken, least_kept, least_of_none}
 use Rattle.hla_order_queues.proofs.receive.RoQueue.least_ordered.Goals as goal
 use Rattle.hla_order_queues.proofs.receive.RoQueue.least_ordered.Goals.{else-event-via-then-event+else-event-least, else-event-via-else-event}

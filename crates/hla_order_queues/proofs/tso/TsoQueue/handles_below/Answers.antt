@@ -1,6 +1,6 @@
 -- As many handles are put as events were counted below the bound.
 use Rattle.std.proofs.Common.{◌≡◌, ◌++◌, take, ap, ◌∙◌}
-use Rattle.hla_order_queues.specs.Queues.{handles_of}
+use Rattle.hla_component_rules.specs.Queues.{handles_of}
 use Rattle.hla_order_queues.proofs.Events.MovingLemmas.{below_moved, all_moved}
 use Rattle.hla_order_queues.proofs.tso.TsoQueue.handles_below.Goals as goal
 use Rattle.hla_order_queues.proofs.tso.TsoQueue.handles_below.Goals.{After-put_handles}

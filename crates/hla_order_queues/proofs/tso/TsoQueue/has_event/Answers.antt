@@ -3,7 +3,7 @@ use Rattle.std.proofs.Common.{◌≡◌, List, None, subst}
 use Rattle.std.specs.Bool.{MatchBool}
 use Rattle.std.specs.Option.{IsSome}
 use Rattle.hla_base.specs.declared.content.Event.{Event}
-use Rattle.hla_order_queues.specs.Queues.{find_event}
+use Rattle.hla_component_rules.specs.Queues.{find_event}
 use Rattle.hla_order_queues.proofs.ByName.StampLemmas.{has_name}
 use Rattle.hla_order_queues.proofs.tso.TsoQueue.has_event.Goals as goal
 

@@ -2,7 +2,7 @@
 use Rattle.std.proofs.Common.{◌≡◌, None, ap, sym, subst, ◌∙◌}
 use Rattle.hla_order_queues.specs.declared.key.EventKey.{EventKey}
 use Rattle.hla_order_queues.specs.Kept.{key_of, name_of_key, stamp_at}
-use Rattle.hla_order_queues.specs.Queues.{find_event}
+use Rattle.hla_component_rules.specs.Queues.{find_event}
 use Rattle.hla_order_queues.proofs.ByName.NamesLemmas.{put_told, refused_told}
 use Rattle.hla_order_queues.proofs.ByName.StampLemmas.{named_inserted, named_same, named_back, not_named}
 use Rattle.hla_order_queues.proofs.tso.TsoQueue.insert.Goals as goal

@@ -1,6 +1,6 @@
 -- The name tells the stamp of the event, and goes with it.
 use Rattle.std.proofs.Common.{◌≡◌, None, sym, ap, ◌∙◌}
-use Rattle.hla_order_queues.specs.Queues.{find_event}
+use Rattle.hla_component_rules.specs.Queues.{find_event}
 use Rattle.hla_order_queues.proofs.Events.EventLemmas.{remove_event_missed}
 use Rattle.hla_order_queues.proofs.ByName.StampLemmas.{named_removed, named_missed, no_name}
 use Rattle.hla_order_queues.proofs.tso.TsoQueue.remove.Goals as goal
