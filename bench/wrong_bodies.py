@@ -118,7 +118,7 @@ def tried(folder, edit, alone):
     single, together, taken = [], [], set()
     for it in bodies:
         changes = edited(folder, [it])[2][it[0]]
-        is_single = alone or any(file.startswith("specs/") for file, _, _ in it[1]) or changes & taken
+        is_single = alone or any("specs/" in file for file, _, _ in it[1]) or changes & taken
         (single if is_single else together).append(it)
         taken |= changes
     groups = [[it] for it in single] + [together] * bool(together)

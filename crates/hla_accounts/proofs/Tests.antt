@@ -1,3 +1,7 @@
+-- Tests of all that waits are tests of the keys in a range of the index
+pub mod Queries
+-- Where no stamp lies below a time, all that waits passes a test
+pub mod Stamps
 -- Tests of accounts decide the bounds of the central machine
 pub mod Bounds
 -- The next discovery of one federate's objects

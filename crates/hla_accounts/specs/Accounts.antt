@@ -16,8 +16,8 @@ use Rattle.hla_machine.specs.Central as machine
 use Rattle.hla_machine.specs.Central.{Central, Copy, Ro, Tso, is_key}
 use Rattle.hla_accounts.specs.declared.account.Account.{Account}
 use Rattle.hla_accounts.specs.declared.offers.Offer.{Offer}
-use Rattle.hla_accounts.specs.declared.bag.Waiting.{Waiting}
-use Rattle.hla_accounts.specs.Bags.{waiting_at, AreApart}
+use Rattle.hla_bags.specs.declared.bag.Waiting.{Waiting}
+use Rattle.hla_bags.specs.Bags.{waiting_at, AreApart}
 
 -- ---- the copies in a bag
 -- the copy that is given so

@@ -10,18 +10,13 @@ use Rattle.hla_base.specs.Rows.{next_request, width, is_regulator, reach}
 use Rattle.hla_callbacks.specs.declared.callback.Delivery.{Delivery}
 use Rattle.hla_callbacks.specs.declared.callback.Delivery.TheVariants.{Receive, Demoted, TimeStamp}
 use Rattle.hla_retraction.specs.SentRows.{sent_of}
+use Rattle.hla_bags.specs.Bags.{ordered_stamp}
 use Rattle.hla_accounts.specs.declared.account.Account.{Account}
-use Rattle.hla_accounts.specs.declared.bag.Waiting.{Waiting}
+use Rattle.hla_bags.specs.declared.bag.Waiting.{Waiting}
 use Rattle.hla_accounts.specs.Accounts.{account_at}
 
 abbrev pub is_retracted : List Account → ℕ → ℕ → Bool
 is_retracted accounts g m = (sent_of (account_at accounts g).sent m).retracted
-
--- the stamp of what goes in time-stamp order
-abbrev pub ordered_stamp : Delivery → Option ℕ
-ordered_stamp Receive = None
-ordered_stamp (Demoted stamp) = None
-ordered_stamp (TimeStamp stamp) = Some stamp
 
 -- the stamp of what was sent in time-stamp order and goes in receive order
 abbrev pub demoted_stamp : Delivery → Option ℕ

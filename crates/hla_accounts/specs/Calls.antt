@@ -12,10 +12,10 @@ use Rattle.hla_machine.specs.declared.step.Carried.TheVariants as carried
 use Rattle.hla_machine.specs.Machine.{is_removal}
 use Rattle.hla_accounts.specs.declared.account.Account.{Account}
 use Rattle.hla_accounts.specs.declared.offers.Offer.{Offer}
-use Rattle.hla_accounts.specs.declared.bag.Waiting.{Waiting}
-use Rattle.hla_accounts.specs.Bags.{waiting_at, is_listed}
+use Rattle.hla_bags.specs.declared.bag.Waiting.{Waiting}
+use Rattle.hla_bags.specs.Bags.{waiting_at, is_listed, ordered_stamp}
 use Rattle.hla_accounts.specs.Accounts.{account_at}
-use Rattle.hla_accounts.specs.Bounds.{is_retracted, ordered_stamp, demoted_stamp, is_below_all_tso, is_below_wake, is_below_bound, is_below_out}
+use Rattle.hla_accounts.specs.Bounds.{is_retracted, demoted_stamp, is_below_all_tso, is_below_wake, is_below_bound, is_below_out}
 
 -- ---- queries
 -- Query LBTS: at most the bound, and for a constrained federate at least its bar

@@ -1,7 +1,3 @@
--- What waits for one federate, as a table by sender and serial
-pub mod Bags
--- What an index of the messages that wait for one federate keeps
-pub mod Indexes
 -- The central machine's state that accounts stand for
 pub mod Accounts
 -- The bounds of the central machine, as tests of accounts

@@ -12,10 +12,10 @@ use Rattle.hla_callbacks.specs.declared.callback.Delivery.{Delivery}
 use Rattle.hla_callbacks.specs.declared.callback.Delivery.TheVariants.{Receive, Demoted, TimeStamp}
 use Rattle.hla_accounts.specs.declared.account.Account.{Account}
 use Rattle.hla_accounts.specs.declared.offers.Offer.{Offer}
-use Rattle.hla_accounts.specs.declared.bag.Waiting.{Waiting}
-use Rattle.hla_accounts.specs.Bags.{waiting_at, is_listed}
+use Rattle.hla_bags.specs.declared.bag.Waiting.{Waiting}
+use Rattle.hla_bags.specs.Bags.{waiting_at, is_listed, ordered_stamp}
 use Rattle.hla_accounts.specs.Accounts.{account_at}
-use Rattle.hla_accounts.specs.Bounds.{is_retracted, ordered_stamp, is_below_all_tso, is_below_bound, has_reached}
+use Rattle.hla_accounts.specs.Bounds.{is_retracted, is_below_all_tso, is_below_bound, has_reached}
 
 -- ---- in turn
 -- f is to be told nothing of synchronization points, and to be asked to take no message back

@@ -9,10 +9,10 @@ ghost use Rattle.hla_base.specs.FederateSets.{federate_set};
 ghost use Rattle.hla_retraction.specs.SentEvents.{no_event};
 ghost use Rattle.hla_retraction.specs.SentRows.{sent_of};
 
-use crate::bag::Bag;
 use crate::handles::Handles;
 use crate::notices::Notices;
 use crate::offers::Offers;
+use hla_bags::Bag;
 use hla_base::{Fault, FederateSet, List, Serial, Ticks};
 use hla_retraction::Sent;
 use hla_time_roles::TimeState;

@@ -5,11 +5,11 @@ ghost use Rattle.std.specs.Option.{option_copied};
 ghost use Rattle.hla_base.specs.Limits.{max_joins};
 ghost use Rattle.hla_retraction.specs.SentRows.{sent_of};
 ghost use Rattle.hla_accounts.specs.Accounts.{account_at, no_account, AreKept};
-ghost use Rattle.hla_accounts.specs.Bags.{waiting_at};
+ghost use Rattle.hla_bags.specs.Bags.{waiting_at};
 ghost use Rattle.hla_accounts.specs.Bounds.{is_retracted};
 
 use crate::account::Account;
-use crate::bag::Waiting;
+use hla_bags::Waiting;
 use hla_base::{EventHandle, FederateNo};
 use std::alloc::Global;
 use std::marker::Model;

@@ -5,25 +5,13 @@ ghost use Rattle.std.specs.List.{list_all};
 ghost use Rattle.hla_base.specs.Limits.{max_time};
 ghost use Rattle.hla_base.specs.Rows.{reach};
 ghost use Rattle.hla_accounts.specs.Accounts.{account_at};
-ghost use Rattle.hla_accounts.specs.declared.bag.Waiting.{Waiting};
-ghost use Rattle.hla_accounts.specs.Indexes.{IsIndexingOf};
-ghost use Rattle.hla_accounts.specs.Bounds.{is_at_most_waiting, is_below_all_tso, is_below_wake, is_below_request, is_below_out, ordered_stamp, leaves_below, is_below_bound, has_reached};
+ghost use Rattle.hla_bags.specs.declared.bag.Waiting.{Waiting};
+ghost use Rattle.hla_bags.specs.Indexes.{IsIndexingOf};
+ghost use Rattle.hla_accounts.specs.Bounds.{is_at_most_waiting, is_below_all_tso, is_below_wake, is_below_request, is_below_out, leaves_below, is_below_bound, has_reached};
 
 use crate::accounts::Accounts;
-use crate::bag::Waiting;
-use crate::indexing::Indexing;
+use hla_bags::{Indexing, Waiting, ordered_stamp};
 use hla_base::{AdvanceKind, AdvanceRequest, FOREVER, FederateNo, Ticks};
-use hla_callbacks::Delivery;
-
-/// The stamp of what goes in time-stamp order, in ticks.
-pub fn ordered_stamp(delivery: Delivery) -> Option<Ticks>
-    ensures { result ≡ ordered_stamp delivery }
-{
-    match delivery {
-        Delivery::TimeStamp { stamp } => Some(stamp),
-        Delivery::Receive | Delivery::Demoted { .. } => None,
-    }
-}
 
 /// A time, in ticks, or for a strict request the next one after it.
 pub fn reach(kind: AdvanceKind, time: Ticks) -> Ticks

@@ -6,17 +6,15 @@ ghost use Rattle.hla_base.specs.declared.number.EventHandle.{EventHandle};
 ghost use Rattle.hla_machine.specs.Directory.{Directory};
 ghost use Rattle.hla_machine.specs.Callbacks.{MayDeliver};
 ghost use Rattle.hla_accounts.specs.Accounts.{account_at, no_account, copy_at, copy_given, central_with};
-ghost use Rattle.hla_accounts.specs.declared.bag.Waiting.{Waiting};
-ghost use Rattle.hla_accounts.specs.Bags.{waiting_at};
-ghost use Rattle.hla_accounts.specs.Indexes.{IsIndexingOf};
+ghost use Rattle.hla_bags.specs.declared.bag.Waiting.{Waiting};
+ghost use Rattle.hla_bags.specs.Bags.{waiting_at};
+ghost use Rattle.hla_bags.specs.Indexes.{IsIndexingOf};
 ghost use Rattle.hla_accounts.specs.Ticks.{has_no_offer, is_discovered, may_deliver, is_moved_below, is_among_if_below, may_constrain};
 
 use crate::accounts::Accounts;
-use crate::bag::{Waiting, is_listed};
-use crate::bounds::ordered_stamp;
-use crate::indexing::Indexing;
 use crate::offers::Offer;
 use crate::ticks::may_receive;
+use hla_bags::{Bag, Indexing, Waiting, is_listed, ordered_stamp};
 use hla_base::{Content, EventHandle, FederateNo, ObjectNo, Plain, Ticks};
 use hla_callbacks::Delivery;
 
@@ -25,6 +23,17 @@ fn has_no_offer(offers: &[Offer], object: ObjectNo) -> bool
     ensures { result ≡ has_no_offer offers.now object }
 {
     offers.iter().all(|offer| offer.discovery.object != object)
+}
+
+/// Whether a message with this content waits, to be given so.
+fn holds(bag: &Bag, event: EventHandle, delivery: Delivery, content: &Content) -> bool
+    ensures { IsTrue result
+        ↔ (copy_at bag.now event.sender event.serial ≡ Some (copy_given delivery content.now)) }
+{
+    match bag.find(event) {
+        Some(waiting) => waiting.delivery.is_same(&delivery) && waiting.content.is_same(content),
+        None => false,
+    }
 }
 
 impl Accounts {
@@ -57,7 +66,7 @@ impl Accounts {
             ≡ Some (copy_given delivery content.now)) }
     {
         match self.get(federate) {
-            Some(account) => account.bag.holds(event, delivery, content),
+            Some(account) => holds(&account.bag, event, delivery, content),
             None => false,
         }
     }

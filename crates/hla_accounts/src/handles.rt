@@ -5,10 +5,10 @@ ghost use Rattle.std.specs.List.{position};
 ghost use Rattle.hla_base.specs.declared.fault.Fault.TheVariants.{OutOfMemory};
 ghost use Rattle.hla_base.specs.Tables.{one_if};
 ghost use Rattle.hla_machine.specs.Central.{is_key};
-ghost use Rattle.hla_accounts.specs.Bags.{is_listed};
+ghost use Rattle.hla_bags.specs.Bags.{is_listed};
 ghost use Rattle.hla_accounts.specs.Accounts.{times_listed, is_handle_of};
 
-use crate::bag::is_listed;
+use hla_bags::is_listed;
 use hla_base::{EventHandle, Fault};
 use std::alloc::Global;
 use std::marker::Model;

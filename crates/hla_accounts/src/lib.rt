@@ -3,7 +3,6 @@
 
 mod account;
 mod accounts;
-mod bag;
 mod bounds;
 mod calls;
 mod changes;
@@ -11,14 +10,10 @@ mod deliveries;
 mod discoveries;
 mod entries;
 mod handles;
-mod index;
-mod indexing;
 mod joining;
-mod line;
 mod messages;
 mod notices;
 mod offers;
-mod places;
 mod points;
 mod refusals;
 mod retracting;
@@ -30,8 +25,8 @@ mod time_refusals;
 
 pub use account::Account;
 pub use accounts::Accounts;
-pub use bag::{Bag, Waiting};
 pub use handles::Handles;
+pub use hla_bags::{Bag, Waiting};
 pub use notices::Notices;
 pub use offers::{Offer, Offers};
 pub use row_change::RowChange;

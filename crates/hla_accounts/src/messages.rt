@@ -14,7 +14,7 @@ ghost use Rattle.hla_accounts.specs.Accounts.{account_at, central_with, copy_at,
 ghost use Rattle.hla_accounts.specs.Sendings.{item_for, is_sent_in_order, stamp_in_order, sent_delivery, copy_sent, kept_event, IsCutTo};
 
 use crate::accounts::Accounts;
-use crate::bag::Waiting;
+use hla_bags::Waiting;
 use hla_base::{Content, EventHandle, Fault, FederateNo, FederateSet, Serial, Ticks};
 use hla_callbacks::Delivery;
 use hla_catalogue::Order;

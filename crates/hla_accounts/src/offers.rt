@@ -9,7 +9,7 @@ ghost use Rattle.hla_machine.specs.Directory.{Directory};
 ghost use Rattle.hla_machine.specs.Callbacks.{IsNextDiscovery};
 ghost use Rattle.hla_accounts.specs.declared.offers.Offer.{Offer};
 ghost use Rattle.hla_accounts.specs.Accounts.{account_at, central_with, offers_from};
-ghost use Rattle.hla_accounts.specs.Bags.{is_listed};
+ghost use Rattle.hla_bags.specs.Bags.{is_listed};
 
 use crate::accounts::Accounts;
 use hla_base::{Discovery, EventHandle, Fault, FederateNo, Plain};

@@ -9,10 +9,10 @@ ghost use Rattle.hla_retraction.specs.SentRows.{sent_of};
 ghost use Rattle.hla_machine.specs.Directory.{Directory};
 ghost use Rattle.hla_machine.specs.Central.{at_key};
 ghost use Rattle.hla_accounts.specs.Accounts.{account_at, central_with, copy_of};
-ghost use Rattle.hla_accounts.specs.Bags.{waiting_at};
+ghost use Rattle.hla_bags.specs.Bags.{waiting_at};
 
 use crate::accounts::Accounts;
-use crate::bag::Waiting;
+use hla_bags::Waiting;
 use hla_base::{Fault, FederateNo, FederateSet, Serial, Ticks};
 
 impl Accounts {

@@ -5,14 +5,13 @@ ghost use Rattle.std.specs.List.{list_all};
 ghost use Rattle.hla_base.specs.Limits.{max_time};
 ghost use Rattle.hla_base.specs.Rows.{grant_time, is_constrained, is_flush, least_of, RowNumbers};
 ghost use Rattle.hla_accounts.specs.Accounts.{account_at};
-ghost use Rattle.hla_accounts.specs.declared.bag.Waiting.{Waiting};
-ghost use Rattle.hla_accounts.specs.Indexes.{IsIndexingOf};
+ghost use Rattle.hla_bags.specs.declared.bag.Waiting.{Waiting};
+ghost use Rattle.hla_bags.specs.Indexes.{IsIndexingOf};
 ghost use Rattle.hla_accounts.specs.Ticks.{is_nothing_due, is_advance_held, may_tick_in_vain, is_flush_granted, is_granted_as, may_grant, may_receive, is_not_earlier, is_first_ro, is_not_earlier_of_stamp, is_first_of_stamp, is_at_first_pick, is_key_le, is_behind, is_first_in_turn, is_least_key, may_pick, may_pick_in_turn};
 
 use crate::accounts::Accounts;
-use crate::bag::Waiting;
-use crate::bounds::{ordered_stamp, reach};
-use crate::indexing::Indexing;
+use crate::bounds::reach;
+use hla_bags::{Indexing, Waiting, ordered_stamp};
 use hla_base::{AdvanceRequest, EventHandle, FederateNo, Role, Ticks, TimeRow};
 use hla_callbacks::Delivery;
 

@@ -11,7 +11,7 @@ use hla_base::{ExecutionName, Fault, FederateNo, LEDGER_PARTS, List, Ticks};
 use hla_callbacks::Recorder;
 use hla_machine::Service;
 use hla_monitor::{Monitor, Naming, Opened, Publisher};
-use hla_rti::{Federate, Left, Rti, open_rti};
+use hla_rti::{Federate, Left, Rti, TimeServices, open_rti};
 use std::alloc::Global;
 use std::marker::Brand;
 use std::sync::Wait;

@@ -4,7 +4,7 @@ use crate::start::Trouble;
 use hla_base::{ClassNo, ExecutionName, Fault, HandleValuePair, List, ParameterNo, Ticks, Value};
 use hla_callbacks::{Callback, Recorder};
 use hla_monitor::{Naming, Publisher};
-use hla_rti::{Courier, Federate};
+use hla_rti::{Courier, Federate, ObjectServices, TimeServices};
 use std::alloc::Global;
 use std::sync::Wait;
 use std::sync::ledger::Ledger;

@@ -4,7 +4,7 @@ use crate::lives::{Job, Part};
 use hla_base::{ExecutionName, Fault, List};
 use hla_callbacks::Recorder;
 use hla_monitor::{Naming, Publisher};
-use hla_rti::{Federate, Rti};
+use hla_rti::{Federate, ObjectServices, Rti, SupportServices, TimeServices};
 use std::alloc::Global;
 use std::sync::Wait;
 use std::sync::ledger::Ledger;

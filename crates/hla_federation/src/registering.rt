@@ -1,13 +1,15 @@
 //! Registering objects and subscribing their classes: what makes objects known.
 
-ghost use Rattle.std.specs.Prelude.{◌≡◌, ◌<◌, ◌≤◌, ◌||◌, eqb, find, is_some, Some, ℕ, List, [], option_map, map, OnOk, IfErr, IfOk};
+ghost use Rattle.std.specs.Prelude.{◌≡◌, ◌+◌, ◌<◌, ◌≤◌, ◌||◌, eqb, find, is_some, Some, ℕ, List, [], option_map, unwrap_or, map, OnOk, IfErr, IfOk};
 ghost use Rattle.std.specs.Option.{option_map_or};
 ghost use Rattle.hla_base.specs.declared.content.Discovery.{Discovery};
-ghost use Rattle.hla_base.specs.Limits.{max_joins};
+ghost use Rattle.hla_base.specs.Limits.{max_joins, max_objects};
 ghost use Rattle.hla_base.specs.declared.fault.Fault.TheVariants.{OutOfMemory};
 ghost use Rattle.hla_catalogue.specs.Lookup.{object_lineage};
 ghost use Rattle.hla_null_message.specs.declared.message.Message.TheVariants as message;
-ghost use Rattle.hla_machine.specs.Directory.{discovery_of, discoveries_of, with_discoveries_made, with_subscribed};
+ghost use Rattle.hla_declaration.specs.Declarations.{declarations_of};
+ghost use Rattle.hla_declaration.specs.Receivers.{object_class_served, receivers_of};
+ghost use Rattle.hla_machine.specs.Directory.{default_name, discovery_of, discoveries_of, with_discoveries_made, with_subscribed};
 ghost use Rattle.hla_machine.specs.declared.service.Service.TheVariants as service;
 ghost use Rattle.hla_machine.specs.declared.step.Step.TheVariants as step;
 ghost use Rattle.hla_machine.specs.Registered.{registry_of};
@@ -25,6 +27,16 @@ use hla_declaration::Receiver;
 use hla_machine::Answer;
 use hla_members::{Direction, Outbox};
 use hla_null_message::Message;
+
+/// What a registration keeps of a new object and answers, made before anything changes.
+#[derive(Drop)]
+struct NewObject {
+    name: List<u8>,
+    answered: List<u8>,
+    attributes: List<AttributeNo>,
+    /// The name of the object after it, where none is given.
+    next_name: List<u8>,
+}
 
 impl Parts {
     /// A copy of the attributes that a federate publishes of a class. `OutOfMemory` where room for it was refused.
@@ -70,6 +82,72 @@ impl Parts {
         Ok(())
     }
 
+    /// The name of a new object: that which is given, or else the one that is next. `OutOfMemory` where a growth was refused.
+    fn name_of_new(&self, name: &Option<List<u8>>) -> Result<List<u8>, Fault>
+        ensures ok { IfOk result (λ given. given ≡ unwrap_or name.now self.now.next_name) }
+        ensures err { IfErr result (λ e. e ≡ Fault.OutOfMemory) }
+    {
+        match name {
+            Some(name) => name.copy(),
+            None => self.next_name.copy(),
+        }
+    }
+
+    /// What a registration keeps of a new object and answers. `OutOfMemory` where a growth was refused.
+    fn new_object(
+        &self,
+        federate: FederateNo,
+        class: ClassNo,
+        object: ObjectNo,
+        name: &Option<List<u8>>,
+    ) -> Result<NewObject, Fault>
+        requires { object ≤ max_objects }
+        ensures name { IfOk result (λ new. new.name ≡ unwrap_or name.now self.now.next_name) }
+        ensures answered { IfOk result (λ new. new.answered ≡ new.name) }
+        ensures attributes { IfOk result (λ new. new.attributes ≡ option_map_or (λ ys. ys)
+            ((state_of self.now).directory.published federate class) []) }
+        ensures next { IfOk result (λ new. new.next_name ≡ default_name (object + 1)) }
+        ensures err { IfErr result (λ e. e ≡ Fault.OutOfMemory) }
+    {
+        let name = self.name_of_new(name)?;
+        let answered = name.copy()?;
+        let next_name = default_name(self.alloc, object + 1)?;
+        let attributes = self.published_copy(federate, class)?;
+        Ok(NewObject {
+            name,
+            answered,
+            attributes,
+            next_name,
+        })
+    }
+
+    /// The discovery of a new object for each of its receivers, and these. `OutOfMemory` where a growth was refused.
+    fn discoveries_of_new(
+        &self,
+        federate: FederateNo,
+        class: ClassNo,
+        object: ObjectNo,
+        name: &[u8],
+    ) -> Result<(Outbox, List<Receiver>), Fault>
+        requires { IsSound self.now }
+        ensures made { IfOk result (λ p. HasAdded
+            (messages_among (discovery_to object name.now) p.1) [] p.0) }
+        ensures receivers { IfOk result (λ p. p.1 ≡ receivers_of
+            (λ k. object_class_served self.now.catalogue
+            (state_of self.now).directory.subscribed k class)
+            (declarations_of self.now.declarations).federates federate) }
+        ensures federates { IfOk result (λ p. AreFederates p.1) }
+        ensures err { IfErr result (λ e. e ≡ Fault.OutOfMemory) }
+    {
+        let receivers = self
+            .declarations
+            .receivers_of_object_class(self.alloc, &self.catalogue, federate, class)?;
+        let mut outbox = Outbox::new(self.alloc)?;
+        let known = shared_name(self.alloc, name)?;
+        self.address_discoveries(&mut outbox, receivers.as_slice(), object, &known)?;
+        Ok((outbox, receivers))
+    }
+
     /// Makes a new object known to its receivers.
     fn make_known_to(&mut self, receivers: &[Receiver], object: ObjectNo)
         requires federates { AreFederates receivers.now }
@@ -104,22 +182,22 @@ impl Parts {
             return Err(fault);
         }
         let object = self.registry.next_object();
-        let given = match name {
-            Some(name) => name.copy()?,
-            None => self.next_name.copy()?,
-        };
-        let answered = given.copy()?;
-        let next_name = default_name(self.alloc, object + 1)?;
-        let attributes = self.published_copy(federate, class)?;
-        let receivers = self
-            .declarations
-            .receivers_of_object_class(self.alloc, &self.catalogue, federate, class)?;
-        let mut outbox = Outbox::new(self.alloc)?;
-        let known = shared_name(self.alloc, given.as_slice())?;
-        self.address_discoveries(&mut outbox, receivers.as_slice(), object, &known)?;
+        let new = self.new_object(federate, class, object, name)?;
+        let (outbox, receivers) = self.discoveries_of_new(
+            federate,
+            class,
+            object,
+            new.name.as_slice(),
+        )?;
         let along = Direction::From(federate);
         self.members.reserve_all(along, &outbox)?;
-        self.registry.register(class, given, federate, attributes)?;
+        let NewObject {
+            name,
+            answered,
+            attributes,
+            next_name,
+        } = new;
+        self.registry.register(class, name, federate, attributes)?;
         self.members.post_all(along, outbox);
         self.make_known_to(receivers.as_slice(), object);
         self.next_name = next_name;

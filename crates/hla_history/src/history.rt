@@ -1,6 +1,6 @@
 //! A history with the executions that it led to, as whoever keeps it under a lock sees it.
 
-ghost use Rattle.std.specs.Prelude.{◌≡◌, ◌+◌, ◌<◌, ◌⊎◌, ◌↔◌, ◌++◌, ◌∷◌, ℕ, [], length, vec_len, vec_capacity, None, Some, is_some, IsTrue, IfOk, IfErr, IfSome, OnErr, MatchResult, slice_get, if◌then◌else◌};
+ghost use Rattle.std.specs.Prelude.{◌≡◌, ◌+◌, ◌<◌, ◌⊎◌, ◌↔◌, ◌++◌, ◌∷◌, ℕ, [], length, vec_len, vec_capacity, None, Some, is_some, true, IsTrue, IfOk, IfErr, IfSome, OnErr, MatchResult, slice_get, if◌then◌else◌};
 ghost use Rattle.hla_machine.specs.declared.service.Service.TheVariants as service;
 ghost use Rattle.hla_machine.specs.declared.step.Act.TheVariants as act;
 ghost use Rattle.hla_machine.specs.declared.step.Choice.TheVariants as choice;
@@ -37,9 +37,11 @@ pub trait History<L: Ledger, B: FederateAmbassador>: Drop {
     // What its parts say.
     ghost value: { Self → HeldValue };
 
-    /// No execution, and a history that has room for `limit` records; `OutOfMemory` where that was refused.
-    fn new(alloc: Global, book: Book<L>, limit: usize) -> Result<Self, Fault>
-        requires { book.total ≡ 0 }
+    /// No execution, and a history that has room for `limit` records; `OutOfMemory` where that was refused. Either way the book
+    /// of its ledger, which counts nothing yet, is taken out of its place.
+    fn new(alloc: Global, book: &mut Option<Book<L>>, limit: usize) -> Result<Self, Fault>
+        requires there { is_some book.old ≡ true }
+        requires unused { IfSome book.old (λ b. b.total ≡ 0) }
         ensures ok { IfOk result (λ s. value s ≡ record {
           history = [];
           limit = limit;

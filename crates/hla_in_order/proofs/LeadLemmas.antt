@@ -64,14 +64,14 @@ length_set (y ∷ xs) (suc k) x = ap suc (length_set xs k x)
 length_push : {X : Type 0} (xs : List X) (x : X) → length (xs ++ x ∷ []) ≡ length xs + 1
 length_push xs x = length-append xs (x ∷ [])
 
-module _ {L B P F : Type 0} where
+module _ {L B P H : Type 0} where
   -- the same callers stand
-  stand_same : (rs : List Record) (own : Caller) (cast cast' : Cast L B P F) → cast'.courier ≡ cast.courier → cast'.players.items ≡ cast.players.items → Stand rs own cast.courier cast.players.items → Stand rs own cast'.courier cast'.players.items
+  stand_same : (rs : List Record) (own : Caller) (cast cast' : Cast L B P H) → cast'.courier ≡ cast.courier → cast'.players.items ≡ cast.players.items → Stand rs own cast.courier cast.players.items → Stand rs own cast'.courier cast'.players.items
   stand_same rs own cast cast' courier players s =
-      subst (λ (c : Caller). Stand rs own c cast'.players.items) (sym courier) (subst (λ (ps : List (Option (Player L B P F))). Stand rs own cast.courier ps) (sym players) s)
+      subst (λ (c : Caller). Stand rs own c cast'.players.items) (sym courier) (subst (λ (ps : List (Option (Player L B P H))). Stand rs own cast.courier ps) (sym players) s)
 
   -- the infrastructure itself
-  pub itself_leads : (fed : List ℕ) (asked : Request) (given : Result Answer Fault) (out : Outcome) (office office' : Office) (cast cast' : Cast L B P F) → ((rs : List Record) (n : ℕ) → n ≡ 0 → IsCaller rs asked n)
+  pub itself_leads : (fed : List ℕ) (asked : Request) (given : Result Answer Fault) (out : Outcome) (office office' : Office) (cast cast' : Cast L B P H) → ((rs : List Record) (n : ℕ) → n ≡ 0 → IsCaller rs asked n)
       → ((o : Outcome) → number_joined (act_asked fed asked) o ≡ []) → HasAnswered office.own cast.execution (act_asked fed asked) given office'.own → answer_given out ≡ given → office'.handed ≡ office.handed
       → cast'.courier ≡ cast.courier → cast'.players.items ≡ cast.players.items → cast'.execution ≡ cast.execution → RequestLeads fed asked out office cast office' cast'
   itself_leads fed asked given out office office' cast cast' caller none answered same handed courier players plays = λ rs set.
@@ -82,13 +82,13 @@ module _ {L B P F : Type 0} where
         led.1.0,
         record {
           stands = stand_same (rs ++ led.0) office'.own cast cast' courier players led.1.1;
-          counts = handed ∙ set.counts ∙ ap (λ (ps : List (Option (Player L B P F))). length ps + 1) (sym players);
+          counts = handed ∙ set.counts ∙ ap (λ (ps : List (Option (Player L B P H))). length ps + 1) (sym players);
           plays = plays ∙ set.plays;
         },
       )
 
   -- the courier
-  pub courier_leads : (fed : List ℕ) (asked : Request) (given : Result Answer Fault) (out : Outcome) (office : Office) (cast cast' : Cast L B P F) → ((rs : List Record) (n : ℕ) → n ≡ 1 → IsCaller rs asked n)
+  pub courier_leads : (fed : List ℕ) (asked : Request) (given : Result Answer Fault) (out : Outcome) (office : Office) (cast cast' : Cast L B P H) → ((rs : List Record) (n : ℕ) → n ≡ 1 → IsCaller rs asked n)
       → ((o : Outcome) → number_joined (act_asked fed asked) o ≡ []) → HasAnswered cast.courier cast.execution (act_asked fed asked) given cast'.courier → answer_given out ≡ given
       → cast'.players.items ≡ cast.players.items → cast'.execution ≡ cast.execution → RequestLeads fed asked out office cast office cast'
   courier_leads fed asked given out office cast cast' caller none answered same players plays = λ rs set.
@@ -98,20 +98,20 @@ module _ {L B P F : Type 0} where
         led.0,
         led.1.0,
         record {
-          stands = subst (λ (ps : List (Option (Player L B P F))). Stand (rs ++ led.0) office.own cast'.courier ps) (sym players) led.1.1;
-          counts = set.counts ∙ ap (λ (ps : List (Option (Player L B P F))). length ps + 1) (sym players);
+          stands = subst (λ (ps : List (Option (Player L B P H))). Stand (rs ++ led.0) office.own cast'.courier ps) (sym players) led.1.1;
+          counts = set.counts ∙ ap (λ (ps : List (Option (Player L B P H))). length ps + 1) (sym players);
           plays = plays ∙ set.plays;
         },
       )
 
-  does_count : (ps qs : List (Option (Player L B P F))) (f : ℕ) (what : Deed) (out : Outcome) → DoesAt ps f what out qs → length qs ≡ length ps
+  does_count : (ps qs : List (Option (Player L B P H))) (f : ℕ) (what : Deed) (out : Outcome) → DoesAt ps f what out qs → length qs ≡ length ps
   does_count ps qs f what out does = elim does [
-    | inl at ↦ ap (λ (rs : List (Option (Player L B P F))). length rs) at.7 ∙ length_set ps at.0 (Some at.2)
-    | inr none ↦ ap (λ (rs : List (Option (Player L B P F))). length rs) none.1
+    | inl at ↦ ap (λ (rs : List (Option (Player L B P H))). length rs) at.7 ∙ length_set ps at.0 (Some at.2)
+    | inr none ↦ ap (λ (rs : List (Option (Player L B P H))). length rs) none.1
   ]
 
   -- a federate
-  pub call_leads : (fed : List ℕ) (x : Service) (f : ℕ) (out : Outcome) (office : Office) (cast cast' : Cast L B P F) → DoesAt cast.players.items f (deed.Serve x) out cast'.players.items → cast'.courier ≡ cast.courier → cast'.execution ≡ cast.execution
+  pub call_leads : (fed : List ℕ) (x : Service) (f : ℕ) (out : Outcome) (office : Office) (cast cast' : Cast L B P H) → DoesAt cast.players.items f (deed.Serve x) out cast'.players.items → cast'.courier ≡ cast.courier → cast'.execution ≡ cast.execution
       → RequestLeads fed (request.Step (step.Call f x)) out office cast office cast'
   call_leads fed x f out office cast cast' does courier plays = λ rs set.
       let led = call_led fed rs x f out office.own cast.courier cast.players.items cast'.players.items set.stands does in (
@@ -124,7 +124,7 @@ module _ {L B P F : Type 0} where
         },
       )
 
-  pub tick_leads : (fed : List ℕ) (f : ℕ) (out : Outcome) (office : Office) (cast cast' : Cast L B P F) → DoesAt cast.players.items f deed.Tick out cast'.players.items → cast'.courier ≡ cast.courier → cast'.execution ≡ cast.execution
+  pub tick_leads : (fed : List ℕ) (f : ℕ) (out : Outcome) (office : Office) (cast cast' : Cast L B P H) → DoesAt cast.players.items f deed.Tick out cast'.players.items → cast'.courier ≡ cast.courier → cast'.execution ≡ cast.execution
       → RequestLeads fed (request.Step (step.Tick f)) out office cast office cast'
   tick_leads fed f out office cast cast' does courier plays = λ rs set.
       let led = tick_led fed rs f out office.own cast.courier cast.players.items cast'.players.items set.stands does in (
@@ -138,7 +138,7 @@ module _ {L B P F : Type 0} where
       )
 
   -- one who joins
-  pub join_leads : (fed name : List ℕ) (office office' : Office) (cast cast' : Cast L B P F) (m : FederateCaller)
+  pub join_leads : (fed name : List ℕ) (office office' : Office) (cast cast' : Cast L B P H) (m : FederateCaller)
       → HasActed office.own cast.execution (act.Step (step.Join name)) (outcome.Done (answer.Federate m.federate)) office'.own → m ≡ record { execution = cast.execution; federate = m.federate; caller = new_caller office'.handed }
       → office'.handed ≡ office.handed + 1 → cast'.courier ≡ cast.courier → cast'.players.items ≡ cast.players.items ++ Some (player.Joined m) ∷ [] → cast'.execution ≡ cast.execution
       → RequestLeads fed (request.Step (step.Join name)) (outcome.Done (answer.Federate m.federate)) office cast office' cast'
@@ -150,13 +150,13 @@ module _ {L B P F : Type 0} where
         led.1.0,
         record {
           stands = subst (λ (c : Caller). Stand (rs ++ led.0) office'.own c cast'.players.items) (sym courier)
-              (subst (λ (ps : List (Option (Player L B P F))). Stand (rs ++ led.0) office'.own cast.courier ps) (sym players) led.1.1);
-          counts = handed ∙ ap (λ (n : ℕ). n + 1) (set.counts ∙ sym (length_push cast.players.items (Some (player.Joined m))) ∙ ap (λ (ps : List (Option (Player L B P F))). length ps) (sym players));
+              (subst (λ (ps : List (Option (Player L B P H))). Stand (rs ++ led.0) office'.own cast.courier ps) (sym players) led.1.1);
+          counts = handed ∙ ap (λ (n : ℕ). n + 1) (set.counts ∙ sym (length_push cast.players.items (Some (player.Joined m))) ∙ ap (λ (ps : List (Option (Player L B P H))). length ps) (sym players));
           plays = plays ∙ set.plays;
         },
       )
 
-  pub unjoined_leads : (fed name : List ℕ) (e : Fault) (office office' : Office) (cast cast' : Cast L B P F)
+  pub unjoined_leads : (fed name : List ℕ) (e : Fault) (office office' : Office) (cast cast' : Cast L B P H)
       → (HasActed office.own cast.execution (act.Step (step.Join name)) (outcome.Refused e) office'.own ⊎ HasNotActed office.own e office'.own) ⊎ ((e ≡ fault.LimitReached) × (max_callers ≤ office.handed) × (office'.own ≡ office.own))
       → office'.handed ≡ office.handed → cast'.courier ≡ cast.courier → cast'.players.items ≡ cast.players.items → cast'.execution ≡ cast.execution
       → RequestLeads fed (request.Step (step.Join name)) (outcome.Refused e) office cast office' cast'
@@ -173,55 +173,55 @@ module _ {L B P F : Type 0} where
         led.1.0,
         record {
           stands = stand_same (rs ++ led.0) office'.own cast cast' courier players led.1.1;
-          counts = handed ∙ set.counts ∙ ap (λ (ps : List (Option (Player L B P F))). length ps + 1) (sym players);
+          counts = handed ∙ set.counts ∙ ap (λ (ps : List (Option (Player L B P H))). length ps + 1) (sym players);
           plays = plays ∙ set.plays;
         },
       )
 
   -- ---- a line
   -- it asks for something
-  pub line_asked : (c : CatalogueValue) (fed : List ℕ) (asks : Command) (asked : Request) (out : Outcome) (office office' : Office) (cast cast' : Cast L B P F) → request_of c cast.members.items asks ≡ Ok asked
+  pub line_asked : (c : CatalogueValue) (fed : List ℕ) (asks : Command) (asked : Request) (out : Outcome) (office office' : Office) (cast cast' : Cast L B P H) → request_of c cast.members.items asks ≡ Ok asked
       → RequestLeads fed asked out office cast office' cast' → cast'.members.items ≡ members_noted cast.members.items asked out → LineLeads c fed asks out office cast office' cast'
   line_asked c fed asks asked out office office' cast cast' is leads notes = λ rs set joined.
       let led = leads rs set in
       let asks_behind : request_of c (members rs) asks ≡ Ok asked = subst (λ (ms : List NamedFederate). request_of c ms asks ≡ Ok asked) joined is in
       (led.0, Asked asked asks_behind led.1, led.2, notes ∙ ap (λ (ms : List NamedFederate). members_noted ms asked out) joined ∙ members_ended fed rs asked out led.0 led.1)
 
-  pub line_stepped : {E : Type 0} (c : CatalogueValue) (fed : List ℕ) (asks : Command) (x : Step) (office office' : Office) (cast cast' : Cast L B P F) (given : Result Outcome E) → request_of c cast.members.items asks ≡ Ok (request.Step x)
+  pub line_stepped : {E : Type 0} (c : CatalogueValue) (fed : List ℕ) (asks : Command) (x : Step) (office office' : Office) (cast cast' : Cast L B P H) (given : Result Outcome E) → request_of c cast.members.items asks ≡ Ok (request.Step x)
       → IfOk given (λ out. (file : List ℕ) → RequestLeads file (request.Step x) out office cast office' cast') → IfOk given (λ out. cast'.members.items ≡ with_change cast.members.items (change_of x) out) → IfOk given (λ out. LineLeads c fed asks out office cast office' cast')
   line_stepped c fed asks x office office' cast cast' (Ok out) is leads notes = line_asked c fed asks (request.Step x) out office office' cast cast' is (leads fed) notes
   line_stepped c fed asks x office office' cast cast' (Err e) is leads notes = tt
 
   -- nothing is done
-  set_same : (rs : List Record) (office : Office) (cast cast' : Cast L B P F) → cast'.courier ≡ cast.courier → cast'.players.items ≡ cast.players.items → cast'.execution ≡ cast.execution → IsSet rs office cast → IsSet (rs ++ []) office cast'
+  set_same : (rs : List Record) (office : Office) (cast cast' : Cast L B P H) → cast'.courier ≡ cast.courier → cast'.players.items ≡ cast.players.items → cast'.execution ≡ cast.execution → IsSet rs office cast → IsSet (rs ++ []) office cast'
   set_same rs office cast cast' courier players plays set =
       subst (λ (xs : List Record). IsSet xs office cast') (sym (append_nil rs)) (record {
         stands = stand_same rs office.own cast cast' courier players set.stands;
-        counts = set.counts ∙ ap (λ (ps : List (Option (Player L B P F))). length ps + 1) (sym players);
+        counts = set.counts ∙ ap (λ (ps : List (Option (Player L B P H))). length ps + 1) (sym players);
         plays = plays ∙ set.plays;
       })
 
   -- it makes no step
-  pub line_refused : (c : CatalogueValue) (fed : List ℕ) (asks : Command) (e : Fault) (office : Office) (cast cast' : Cast L B P F) → request_of c cast.members.items asks ≡ Err e
+  pub line_refused : (c : CatalogueValue) (fed : List ℕ) (asks : Command) (e : Fault) (office : Office) (cast cast' : Cast L B P H) → request_of c cast.members.items asks ≡ Err e
       → cast'.courier ≡ cast.courier → cast'.players.items ≡ cast.players.items → cast'.execution ≡ cast.execution → cast'.members.items ≡ cast.members.items → LineLeads c fed asks (outcome.Refused e) office cast office cast'
   line_refused c fed asks e office cast cast' is courier players plays same = λ rs set joined.
       let behind : request_of c (members rs) asks ≡ Err e = subst (λ (ms : List NamedFederate). request_of c ms asks ≡ Err e) joined is in
       ([], WithoutStep e behind refl refl, set_same rs office cast cast' courier players plays set, same ∙ joined ∙ ap members (sym (append_nil rs)))
 
   -- there was no memory to ask
-  pub line_forgotten : (c : CatalogueValue) (fed : List ℕ) (asks : Command) (office : Office) (cast cast' : Cast L B P F) → (asked : Request) × (request_of c cast.members.items asks ≡ Ok asked)
+  pub line_forgotten : (c : CatalogueValue) (fed : List ℕ) (asks : Command) (office : Office) (cast cast' : Cast L B P H) → (asked : Request) × (request_of c cast.members.items asks ≡ Ok asked)
       → cast'.courier ≡ cast.courier → cast'.players.items ≡ cast.players.items → cast'.execution ≡ cast.execution → cast'.members.items ≡ cast.members.items → LineLeads c fed asks (outcome.Refused fault.OutOfMemory) office cast office cast'
   line_forgotten c fed asks office cast cast' meant courier players plays same = λ rs set joined.
       let behind : request_of c (members rs) asks ≡ Ok meant.0 = subst (λ (ms : List NamedFederate). request_of c ms asks ≡ Ok meant.0) joined meant.1 in
       ([], Asked meant.0 behind (Unrecorded fault.OutOfMemory (not_acted rs meant.0 fault.OutOfMemory (inr refl)) refl refl), set_same rs office cast cast' courier players plays set, same ∙ joined ∙ ap members (sym (append_nil rs)))
 
   -- ---- all lines
-  pub led_first : (c : CatalogueValue) (fed : List ℕ) (lines : List Line) (told : List (Option Outcome)) (office : Office) (cast : Cast L B P F) → told ≡ [] → IsSet [] office cast → cast.members.items ≡ [] → HaveLed c fed (take 0 lines) told office cast
+  pub led_first : (c : CatalogueValue) (fed : List ℕ) (lines : List Line) (told : List (Option Outcome)) (office : Office) (cast : Cast L B P H) → told ≡ [] → IsSet [] office cast → cast.members.items ≡ [] → HaveLed c fed (take 0 lines) told office cast
   unfolding members_from
   led_first c fed [] told office cast none set nobody = record { outcomes = []; records = []; does = refl; tells = none; set = set; joined = nobody }
   led_first c fed (l ∷ lines) told office cast none set nobody = record { outcomes = []; records = []; does = refl; tells = none; set = set; joined = nobody }
 
-  pub led_more : (c : CatalogueValue) (fed : List ℕ) (lines : List Line) (i : ℕ) (l : Line) (told told' : List (Option Outcome)) (out : Outcome) (office office' : Office) (cast cast' : Cast L B P F) → HaveLed c fed (take i lines) told office cast
+  pub led_more : (c : CatalogueValue) (fed : List ℕ) (lines : List Line) (i : ℕ) (l : Line) (told told' : List (Option Outcome)) (out : Outcome) (office office' : Office) (cast cast' : Cast L B P H) → HaveLed c fed (take i lines) told office cast
       → i < length lines → l ≡ get_or lines i l → LineLeads c fed l.command out office cast office' cast' → told' ≡ told ++ Some out ∷ [] → HaveLed c fed (take (i + 1) lines) told' office' cast'
   led_more c fed lines i l told told' out office office' cast cast' led within is leads adds =
       let behind = leads led.records led.set led.joined in
@@ -236,18 +236,18 @@ module _ {L B P F : Type 0} where
         joined = behind.3;
       }
 
-  pub led_all : (c : CatalogueValue) (fed : List ℕ) (lines : List Line) (i : ℕ) (told : List (Option Outcome)) (office : Office) (cast : Cast L B P F) → HaveLed c fed (take i lines) told office cast → length lines ≤ i → HaveLed c fed lines told office cast
+  pub led_all : (c : CatalogueValue) (fed : List ℕ) (lines : List Line) (i : ℕ) (told : List (Option Outcome)) (office : Office) (cast : Cast L B P H) → HaveLed c fed (take i lines) told office cast → length lines ≤ i → HaveLed c fed lines told office cast
   led_all c fed lines i told office cast led whole = subst (λ (ls : List Line). HaveLed c fed ls told office cast) (take_all i lines whole) led
 
   -- ---- the end
   -- the courier has left
-  pub courier_left : (rs : List Record) (office : Office) (cast : Cast L B P F) (lefts : List Leaver) (x : Leaver) → IsSet rs office cast → lefts ≡ x ∷ [] → x.caller ≡ cast.courier → HaveLeft rs lefts 1 2
+  pub courier_left : (rs : List Record) (office : Office) (cast : Cast L B P H) (lefts : List Leaver) (x : Leaver) → IsSet rs office cast → lefts ≡ x ∷ [] → x.caller ≡ cast.courier → HaveLeft rs lefts 1 2
   courier_left rs office cast lefts x set is same n low high =
       let here : n ≡ 1 = omega (arith, low, high) in
       (0, x, ap (λ (ls : List Leaver). slice_get ls 0) is, subst (λ (c : Caller). IsBook rs n c) (sym same) (subst (λ (m : ℕ). IsBook rs m cast.courier) (sym here) set.stands.carrier))
 
   -- one more federate has
-  pub player_left : (rs : List Record) (office : Office) (cast : Cast L B P F) (lefts after : List Leaver) (x : Leaver) (i : ℕ) (p : Player L B P F) → IsSet rs office cast → HaveLeft rs lefts 1 (i + 2) → slice_get cast.players.items i ≡ Some (Some p) → x.caller ≡ caller_of p → after ≡ lefts ++ x ∷ []
+  pub player_left : (rs : List Record) (office : Office) (cast : Cast L B P H) (lefts after : List Leaver) (x : Leaver) (i : ℕ) (p : Player L B P H) → IsSet rs office cast → HaveLeft rs lefts 1 (i + 2) → slice_get cast.players.items i ≡ Some (Some p) → x.caller ≡ caller_of p → after ≡ lefts ++ x ∷ []
       → HaveLeft rs after 1 (i + 1 + 2)
   player_left rs office cast lefts after x i p set left at same adds n low high =
       let there = player_at rs 2 i (entrants rs) cast.players.items (Some p) set.stands.federates at in
@@ -263,24 +263,24 @@ module _ {L B P F : Type 0} where
       subst (λ (ls : List Leaver). HasLeft rs ls n) (sym adds) main
 
   -- each place of a federate has one
-  pub player_there : (rs : List Record) (office : Office) (cast : Cast L B P F) (i : ℕ) → IsSet rs office cast → slice_get cast.players.items i ≡ Some None → ⊥
+  pub player_there : (rs : List Record) (office : Office) (cast : Cast L B P H) (i : ℕ) → IsSet rs office cast → slice_get cast.players.items i ≡ Some None → ⊥
   player_there rs office cast i set at = (player_at rs 2 i (entrants rs) cast.players.items None set.stands.federates at).2
 
-  pub slot_there : (rs : List Record) (office : Office) (cast : Cast L B P F) (i : ℕ) (slot : Option (Player L B P F)) → IsSet rs office cast → slice_get cast.players.items i ≡ Some slot → ((p : Player L B P F) → slot ≡ Some p → ⊥) → ⊥
+  pub slot_there : (rs : List Record) (office : Office) (cast : Cast L B P H) (i : ℕ) (slot : Option (Player L B P H)) → IsSet rs office cast → slice_get cast.players.items i ≡ Some slot → ((p : Player L B P H) → slot ≡ Some p → ⊥) → ⊥
   slot_there rs office cast i None set at other = player_there rs office cast i set at
   slot_there rs office cast i (Some p) set at other = other p refl
 
-  pub all_left : (rs : List Record) (office : Office) (cast : Cast L B P F) (lefts : List Leaver) (i : ℕ) → IsSet rs office cast → HaveLeft rs lefts 1 (i + 2) → length cast.players.items ≤ i → HaveLeft rs lefts 1 (callers rs)
+  pub all_left : (rs : List Record) (office : Office) (cast : Cast L B P H) (lefts : List Leaver) (i : ℕ) → IsSet rs office cast → HaveLeft rs lefts 1 (i + 2) → length cast.players.items ≤ i → HaveLeft rs lefts 1 (callers rs)
   all_left rs office cast lefts i set left whole n low high =
       let counted = players_count rs 2 (entrants rs) cast.players.items set.stands.federates in
       left n low (omega (arith, high, counted, whole))
 
-  pub have_ended : (c : CatalogueValue) (fed : List ℕ) (lines : List Line) (told : List (Option Outcome)) (office : Office) (cast : Cast L B P F) (lefts : List Leaver) → HaveLed c fed lines told office cast
+  pub have_ended : (c : CatalogueValue) (fed : List ℕ) (lines : List Line) (told : List (Option Outcome)) (office : Office) (cast : Cast L B P H) (lefts : List Leaver) → HaveLed c fed lines told office cast
       → ((rs : List Record) (o : Office) → IsSet rs o cast → HaveLeft rs lefts 1 (callers rs)) → HaveEnded c fed lines told office lefts
   have_ended c fed lines told office cast lefts led leaves =
       record { outcomes = led.outcomes; records = led.records; does = led.does; tells = led.tells; own = led.set.stands.itself; left = leaves led.records office led.set; counts = omega (arith, led.set.counts, players_count led.records 2 (entrants led.records) cast.players.items led.set.stands.federates) }
 
-pub leave_ended : {L B P F V E : Type 0} (c : CatalogueValue) (fed : List ℕ) (lines : List Line) (told : List (Option Outcome)) (office : Office) (cast : Cast L B P F) (items : V → List Leaver) (left : Result V E) → HaveLed c fed lines told office cast
+pub leave_ended : {L B P H V E : Type 0} (c : CatalogueValue) (fed : List ℕ) (lines : List Line) (told : List (Option Outcome)) (office : Office) (cast : Cast L B P H) (items : V → List Leaver) (left : Result V E) → HaveLed c fed lines told office cast
     → IfOk left (λ v. (rs : List Record) (o : Office) → IsSet rs o cast → HaveLeft rs (items v) 1 (callers rs)) → IfOk left (λ v. HaveEnded c fed lines told office (items v))
 leave_ended c fed lines told office cast items (Ok v) led leaves = have_ended c fed lines told office cast (items v) led leaves
 leave_ended c fed lines told office cast items (Err e) led leaves = tt

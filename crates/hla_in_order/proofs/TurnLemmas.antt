@@ -69,27 +69,27 @@ set_here [] k x at = refl
 set_here {X = X} (y ∷ xs) zero x at = let same : y ≡ x = cc in ap (λ (z : X). z ∷ xs) (sym same)
 set_here {X = X} (y ∷ xs) (suc k) x at = ap (λ (zs : List X). y ∷ zs) (set_here xs k x at)
 
-module _ {L B P F : Type 0} where
-  unjoined_not : (f : ℕ) (slot : Option (Player L B P F)) → IsUnjoined slot → IsJoinedAs f slot → ⊥
+module _ {L B P H : Type 0} where
+  unjoined_not : (f : ℕ) (slot : Option (Player L B P H)) → IsUnjoined slot → IsJoinedAs f slot → ⊥
   unjoined_not f None none joined = joined
   unjoined_not f (Some (player.Joined m)) none joined = none m refl
   unjoined_not f (Some (player.Gone l)) none joined = joined
 
   -- at its place
-  pub does_at : (ps qs : List (Option (Player L B P F))) (k f : ℕ) (what : Deed) (out : Outcome) (old new : Option (Player L B P F)) → IsJoinedAt ps k f → slice_get ps k ≡ Some old → DoesIn old what out new → qs ≡ slice_set ps k new → DoesAt ps f what out qs
+  pub does_at : (ps qs : List (Option (Player L B P H))) (k f : ℕ) (what : Deed) (out : Outcome) (old new : Option (Player L B P H)) → IsJoinedAt ps k f → slice_get ps k ≡ Some old → DoesIn old what out new → qs ≡ slice_set ps k new → DoesAt ps f what out qs
   does_at ps qs k f what out old new joined at does sets =
       let same : joined.0 ≡ old = let e : Some joined.0 ≡ Some old = sym joined.1 ∙ at in cc in
-      let here : IsJoinedAs f old = subst (λ (o : Option (Player L B P F)). IsJoinedAs f o) same joined.2 in
+      let here : IsJoinedAs f old = subst (λ (o : Option (Player L B P H)). IsJoinedAs f o) same joined.2 in
       elim does [
         | inl done ↦
-            let named : done.0.federate ≡ f = subst (λ (o : Option (Player L B P F)). IsJoinedAs f o) done.2 here in
-            inl (k, done.0, done.1, at ∙ ap (λ (o : Option (Player L B P F)). Some o) done.2, named, done.3, done.4, sets ∙ ap (λ (o : Option (Player L B P F)). slice_set ps k o) done.5)
+            let named : done.0.federate ≡ f = subst (λ (o : Option (Player L B P H)). IsJoinedAs f o) done.2 here in
+            inl (k, done.0, done.1, at ∙ ap (λ (o : Option (Player L B P H)). Some o) done.2, named, done.3, done.4, sets ∙ ap (λ (o : Option (Player L B P H)). slice_set ps k o) done.5)
         | inr none ↦ absurd (unjoined_not f old none.2 here)
       ]
 
   -- ---- what a caller's act leads to
   -- of the infrastructure itself
-  pub itself_led : (fed : List ℕ) (rs : List Record) (asked : Request) (out : Outcome) (own new courier : Caller) (ps : List (Option (Player L B P F))) → Stand rs own courier ps → IsCaller rs asked own.number
+  pub itself_led : (fed : List ℕ) (rs : List Record) (asked : Request) (out : Outcome) (own new courier : Caller) (ps : List (Option (Player L B P H))) → Stand rs own courier ps → IsCaller rs asked own.number
       → ((o : Outcome) → number_joined (act_asked fed asked) o ≡ []) → HasTold own (codes "play") (act_asked fed asked) out new → Led fed rs asked out new courier ps
   itself_led fed rs asked out own new courier ps s caller none told = elim told [
     | inl acted ↦
@@ -99,7 +99,7 @@ module _ {L B P F : Type 0} where
   ]
 
   -- of the courier
-  pub courier_led : (fed : List ℕ) (rs : List Record) (asked : Request) (out : Outcome) (own courier new : Caller) (ps : List (Option (Player L B P F))) → Stand rs own courier ps → IsCaller rs asked courier.number
+  pub courier_led : (fed : List ℕ) (rs : List Record) (asked : Request) (out : Outcome) (own courier new : Caller) (ps : List (Option (Player L B P H))) → Stand rs own courier ps → IsCaller rs asked courier.number
       → ((o : Outcome) → number_joined (act_asked fed asked) o ≡ []) → HasTold courier (codes "play") (act_asked fed asked) out new → Led fed rs asked out own new ps
   courier_led fed rs asked out own courier new ps s caller none told = elim told [
     | inl acted ↦
@@ -109,16 +109,16 @@ module _ {L B P F : Type 0} where
   ]
 
   -- a federate stays the same while it is joined, and is gone once it has resigned
-  stays_as : (m : FederateCaller) (what : Deed) (out : Outcome) (p : Player L B P F) → DoesDeed m what out p → IsGoneBy what out p → (f : ℕ) → IsAs {L = L} {B = B} {P = P} {F = F} f (player.Joined m) → IsAs f p
+  stays_as : (m : FederateCaller) (what : Deed) (out : Outcome) (p : Player L B P H) → DoesDeed m what out p → IsGoneBy what out p → (f : ℕ) → IsAs {L = L} {B = B} {P = P} {H = H} f (player.Joined m) → IsAs f p
   stays_as m what out (player.Joined new) does gone f is = (does.1.0 ∙ is.0, does.1.1 ∙ is.1)
   stays_as m what out (player.Gone l) does gone f is =
       let told : HasTold m.caller m.execution (act.Step (step.Call m.federate (service.Resign gone.0))) out l.caller = subst (λ (d : Deed). HasDone m.caller m.execution m.federate d out l.caller) gone.1 does.0 in
       subst (λ (g : ℕ). HasResigning l.caller.transcript g) is.0 (told_resigning m.caller l.caller m.execution m.federate gone.0 out gone.2 told)
 
   -- of a federate
-  federate_led : (fed : List ℕ) (rs : List Record) (asks : Step) (f k : ℕ) (out : Outcome) (own courier : Caller) (ps : List (Option (Player L B P F))) (m : FederateCaller) (p : Player L B P F) → Stand rs own courier ps
+  federate_led : (fed : List ℕ) (rs : List Record) (asks : Step) (f k : ℕ) (out : Outcome) (own courier : Caller) (ps : List (Option (Player L B P H))) (m : FederateCaller) (p : Player L B P H) → Stand rs own courier ps
       → slice_get ps k ≡ Some (Some (player.Joined m)) → m.federate ≡ f → HasTold m.caller m.execution (act.Step asks) out (caller_of p)
-      → ((g : ℕ) → IsAs {L = L} {B = B} {P = P} {F = F} g (player.Joined m) → IsAs g p) → ((n : ℕ) → IsEntrant rs f n → IsStepper rs asks n) → ((o : Outcome) → number_joined (act.Step asks) o ≡ []) → Led fed rs (request.Step asks) out own courier (slice_set ps k (Some p))
+      → ((g : ℕ) → IsAs {L = L} {B = B} {P = P} {H = H} g (player.Joined m) → IsAs g p) → ((n : ℕ) → IsEntrant rs f n → IsStepper rs asks n) → ((o : Outcome) → number_joined (act.Step asks) o ≡ []) → Led fed rs (request.Step asks) out own courier (slice_set ps k (Some p))
   federate_led fed rs asks f k out own courier ps m p s at named told keeps stepper none =
       let there = player_at rs 2 k (entrants rs) ps (Some (player.Joined m)) s.federates at in
       let place : m.caller.number ≡ k + 2 = omega (arith, there.2.0.0) in
@@ -138,28 +138,28 @@ module _ {L B P F : Type 0} where
       ]
 
   -- of the federate of a number, or of none
-  pub call_led : (fed : List ℕ) (rs : List Record) (x : Service) (f : ℕ) (out : Outcome) (own courier : Caller) (ps new : List (Option (Player L B P F))) → Stand rs own courier ps → DoesAt ps f (deed.Serve x) out new
+  pub call_led : (fed : List ℕ) (rs : List Record) (x : Service) (f : ℕ) (out : Outcome) (own courier : Caller) (ps new : List (Option (Player L B P H))) → Stand rs own courier ps → DoesAt ps f (deed.Serve x) out new
       → Led fed rs (request.Step (step.Call f x)) out own courier new
   call_led fed rs x f out own courier ps new s does = elim does [
     | inl at ↦
         let told = subst (λ (g : ℕ). HasTold at.1.caller at.1.execution (act.Step (step.Call g x)) out (caller_of at.2)) at.4 at.5.0 in
-        subst (λ (qs : List (Option (Player L B P F))). Led fed rs (request.Step (step.Call f x)) out own courier qs) (sym at.7)
+        subst (λ (qs : List (Option (Player L B P H))). Led fed rs (request.Step (step.Call f x)) out own courier qs) (sym at.7)
         (federate_led fed rs (step.Call f x) f at.0 out own courier ps at.1 at.2 s at.3 at.4 told (stays_as at.1 (deed.Serve x) out at.2 at.5 at.6) (λ n is. is) (λ o. refl))
-    | inr none ↦ ([], (Unrecorded fault.FederateNotExecutionMember (inr (refl, have_resigned rs own courier ps f s none.2)) none.0 refl, subst (λ (qs : List (Option (Player L B P F))). Stand (rs ++ []) own courier qs) (sym none.1) (nothing_added rs own courier ps s)))
+    | inr none ↦ ([], (Unrecorded fault.FederateNotExecutionMember (inr (refl, have_resigned rs own courier ps f s none.2)) none.0 refl, subst (λ (qs : List (Option (Player L B P H))). Stand (rs ++ []) own courier qs) (sym none.1) (nothing_added rs own courier ps s)))
   ]
 
-  pub tick_led : (fed : List ℕ) (rs : List Record) (f : ℕ) (out : Outcome) (own courier : Caller) (ps new : List (Option (Player L B P F))) → Stand rs own courier ps → DoesAt ps f deed.Tick out new
+  pub tick_led : (fed : List ℕ) (rs : List Record) (f : ℕ) (out : Outcome) (own courier : Caller) (ps new : List (Option (Player L B P H))) → Stand rs own courier ps → DoesAt ps f deed.Tick out new
       → Led fed rs (request.Step (step.Tick f)) out own courier new
   tick_led fed rs f out own courier ps new s does = elim does [
     | inl at ↦
         let told = subst (λ (g : ℕ). HasTold at.1.caller at.1.execution (act.Step (step.Tick g)) out (caller_of at.2)) at.4 at.5.0 in
-        subst (λ (qs : List (Option (Player L B P F))). Led fed rs (request.Step (step.Tick f)) out own courier qs) (sym at.7)
+        subst (λ (qs : List (Option (Player L B P H))). Led fed rs (request.Step (step.Tick f)) out own courier qs) (sym at.7)
         (federate_led fed rs (step.Tick f) f at.0 out own courier ps at.1 at.2 s at.3 at.4 told (stays_as at.1 deed.Tick out at.2 at.5 at.6) (λ n is. is) (λ o. refl))
-    | inr none ↦ ([], (Unrecorded fault.FederateNotExecutionMember (inr (refl, have_resigned rs own courier ps f s none.2)) none.0 refl, subst (λ (qs : List (Option (Player L B P F))). Stand (rs ++ []) own courier qs) (sym none.1) (nothing_added rs own courier ps s)))
+    | inr none ↦ ([], (Unrecorded fault.FederateNotExecutionMember (inr (refl, have_resigned rs own courier ps f s none.2)) none.0 refl, subst (λ (qs : List (Option (Player L B P H))). Stand (rs ++ []) own courier qs) (sym none.1) (nothing_added rs own courier ps s)))
   ]
 
   -- of one who joins
-  pub join_led : (fed : List ℕ) (rs : List Record) (name : List ℕ) (handed : ℕ) (own new courier : Caller) (ps : List (Option (Player L B P F))) (m : FederateCaller) → Stand rs own courier ps → handed ≡ length ps + 1
+  pub join_led : (fed : List ℕ) (rs : List Record) (name : List ℕ) (handed : ℕ) (own new courier : Caller) (ps : List (Option (Player L B P H))) (m : FederateCaller) → Stand rs own courier ps → handed ≡ length ps + 1
       → HasActed own (codes "play") (act.Step (step.Join name)) (outcome.Done (answer.Federate m.federate)) new → m.caller ≡ new_caller (handed + 1) → m.execution ≡ codes "play"
       → Led fed rs (request.Step (step.Join name)) (outcome.Done (answer.Federate m.federate)) new courier (ps ++ Some (player.Joined m) ∷ [])
   join_led fed rs name handed own new courier ps m s many acted is_new plays =
@@ -171,7 +171,7 @@ module _ {L B P F : Type 0} where
         ),
       )
 
-  pub unjoined_led : (fed : List ℕ) (rs : List Record) (name : List ℕ) (e : Fault) (handed : ℕ) (own new courier : Caller) (ps : List (Option (Player L B P F))) → Stand rs own courier ps
+  pub unjoined_led : (fed : List ℕ) (rs : List Record) (name : List ℕ) (e : Fault) (handed : ℕ) (own new courier : Caller) (ps : List (Option (Player L B P H))) → Stand rs own courier ps
       → (HasActed own (codes "play") (act.Step (step.Join name)) (outcome.Refused e) new ⊎ HasNotActed own e new) ⊎ ((e ≡ fault.LimitReached) × (max_callers ≤ handed) × (new ≡ own))
       → handed ≡ length ps + 1 → Led fed rs (request.Step (step.Join name)) (outcome.Refused e) new courier ps
   unjoined_led fed rs name e handed own new courier ps s refused counts = elim refused [

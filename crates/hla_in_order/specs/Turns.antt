@@ -26,34 +26,34 @@ use Rattle.hla_outcomes.specs.declared.fault.RunFault.TheVariants as stop
 
 -- ---- a federate among those of a script
 -- the federate of a number is here, joined
-abbrev pub IsJoinedAs : {L B P F : Type 0} → ℕ → Option (Player L B P F) → Type 0
+abbrev pub IsJoinedAs : {L B P H : Type 0} → ℕ → Option (Player L B P H) → Type 0
 IsJoinedAs f None = ⊥
 IsJoinedAs f (Some (player.Joined m)) = m.federate ≡ f
 IsJoinedAs f (Some (player.Gone l)) = ⊥
 
 -- it is at this place
-abbrev pub IsJoinedAt : {L B P F : Type 0} → List (Option (Player L B P F)) → ℕ → ℕ → Type 0
-IsJoinedAt {L = L} {B = B} {P = P} {F = F} players k f = (p : Option (Player L B P F)) × (slice_get players k ≡ Some p) × IsJoinedAs f p
+abbrev pub IsJoinedAt : {L B P H : Type 0} → List (Option (Player L B P H)) → ℕ → ℕ → Type 0
+IsJoinedAt {L = L} {B = B} {P = P} {H = H} players k f = (p : Option (Player L B P H)) × (slice_get players k ≡ Some p) × IsJoinedAs f p
 
 -- nobody is here that is joined
-abbrev pub IsUnjoined : {L B P F : Type 0} → Option (Player L B P F) → Type 0
+abbrev pub IsUnjoined : {L B P H : Type 0} → Option (Player L B P H) → Type 0
 IsUnjoined slot = (m : FederateCaller) → slot ≡ Some (player.Joined m) → ⊥
 
 -- the federate that is here has done a deed, and is gone only by that; or none is here that is joined
-abbrev pub DoesIn : {L B P F : Type 0} → Option (Player L B P F) → Deed → Outcome → Option (Player L B P F) → Type 0
-DoesIn {L = L} {B = B} {P = P} {F = F} old what out new =
-    ((m : FederateCaller) × (p : Player L B P F) × (old ≡ Some (player.Joined m)) × DoesDeed m what out p × IsGoneBy what out p × (new ≡ Some p))
+abbrev pub DoesIn : {L B P H : Type 0} → Option (Player L B P H) → Deed → Outcome → Option (Player L B P H) → Type 0
+DoesIn {L = L} {B = B} {P = P} {H = H} old what out new =
+    ((m : FederateCaller) × (p : Player L B P H) × (old ≡ Some (player.Joined m)) × DoesDeed m what out p × IsGoneBy what out p × (new ≡ Some p))
     ⊎ ((out ≡ outcome.Refused fault.FederateNotExecutionMember) × (new ≡ old) × IsUnjoined old)
 
 -- the federate of a number has done a deed, at its place; or there is none that is joined
-abbrev pub DoesAt : {L B P F : Type 0} → List (Option (Player L B P F)) → ℕ → Deed → Outcome → List (Option (Player L B P F)) → Type 0
-DoesAt {L = L} {B = B} {P = P} {F = F} old f what out new =
-    ((k : ℕ) × (m : FederateCaller) × (p : Player L B P F) × (slice_get old k ≡ Some (Some (player.Joined m))) × (m.federate ≡ f) × DoesDeed m what out p × IsGoneBy what out p × (new ≡ slice_set old k (Some p)))
+abbrev pub DoesAt : {L B P H : Type 0} → List (Option (Player L B P H)) → ℕ → Deed → Outcome → List (Option (Player L B P H)) → Type 0
+DoesAt {L = L} {B = B} {P = P} {H = H} old f what out new =
+    ((k : ℕ) × (m : FederateCaller) × (p : Player L B P H) × (slice_get old k ≡ Some (Some (player.Joined m))) × (m.federate ≡ f) × DoesDeed m what out p × IsGoneBy what out p × (new ≡ slice_set old k (Some p)))
     ⊎ ((out ≡ outcome.Refused fault.FederateNotExecutionMember) × (new ≡ old) × ((k : ℕ) → IsJoinedAt old k f → ⊥))
 
 -- ---- the callers behind a step
 -- what was asked has come out behind some records, and the callers stand behind them and the record that it adds
-abbrev pub Led : {L B P F : Type 0} → List ℕ → List Record → Request → Outcome → Caller → Caller → List (Option (Player L B P F)) → Type 0
+abbrev pub Led : {L B P H : Type 0} → List ℕ → List Record → Request → Outcome → Caller → Caller → List (Option (Player L B P H)) → Type 0
 Led fed rs asked out own courier players = (added : List Record) × (RequestEnds fed rs asked out added × Stand (rs ++ added) own courier players)
 
 -- those who joined, after an outcome of what was asked
@@ -73,24 +73,24 @@ HaveLeft rs lefts low high = (n : ℕ) → low ≤ n → n < high → HasLeft rs
 
 -- ---- the functions
 -- all callers stand behind these records
-pub record IsSet {L B P F : Type 0} (rs : List Record) (office : Office) (cast : Cast L B P F) : Type 0 where
+pub record IsSet {L B P H : Type 0} (rs : List Record) (office : Office) (cast : Cast L B P H) : Type 0 where
   pub stands : Stand rs office.own cast.courier cast.players.items
   pub counts : office.handed ≡ length cast.players.items + 1
   pub plays : cast.execution ≡ codes "play"
 
 -- what was asked leads from any records behind which all stand to those with the record that it adds
-abbrev pub RequestLeads : {L B P F : Type 0} → List ℕ → Request → Outcome → Office → Cast L B P F → Office → Cast L B P F → Type 0
+abbrev pub RequestLeads : {L B P H : Type 0} → List ℕ → Request → Outcome → Office → Cast L B P H → Office → Cast L B P H → Type 0
 RequestLeads fed asked out office cast office' cast' =
     (rs : List Record) → IsSet rs office cast → (added : List Record) × RequestEnds fed rs asked out added × IsSet (rs ++ added) office' cast'
 
 -- the same of a line, with those who have joined
-abbrev pub LineLeads : {L B P F : Type 0} → CatalogueValue → List ℕ → Command → Outcome → Office → Cast L B P F → Office → Cast L B P F → Type 0
+abbrev pub LineLeads : {L B P H : Type 0} → CatalogueValue → List ℕ → Command → Outcome → Office → Cast L B P H → Office → Cast L B P H → Type 0
 LineLeads c fed command out office cast office' cast' =
     (rs : List Record) → IsSet rs office cast → cast.members.items ≡ members rs
     → (added : List Record) × LineComesOut c fed rs command out added × IsSet (rs ++ added) office' cast' × (cast'.members.items ≡ members (rs ++ added))
 
 -- lines have led from no records to some behind which all stand, and came out so
-pub record HaveLed {L B P F : Type 0} (c : CatalogueValue) (fed : List ℕ) (lines : List Line) (told : List (Option Outcome)) (office : Office) (cast : Cast L B P F) : Type 0 where
+pub record HaveLed {L B P H : Type 0} (c : CatalogueValue) (fed : List ℕ) (lines : List Line) (told : List (Option Outcome)) (office : Office) (cast : Cast L B P H) : Type 0 where
   pub outcomes : List Outcome
   pub records : List Record
   pub does : Does c fed [] lines outcomes records

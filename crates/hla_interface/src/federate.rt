@@ -8,14 +8,12 @@ ghost use Rattle.hla_machine.specs.declared.service.Service.TheVariants as servi
 ghost use Rattle.hla_machine.specs.declared.step.Act.TheVariants as act;
 ghost use Rattle.hla_machine.specs.declared.step.Answer.TheVariants as answer;
 ghost use Rattle.hla_machine.specs.declared.step.Step.TheVariants as step;
-ghost use Rattle.hla_history.specs.Forms.{NoAnswer, ARegistration, AHandle, AName, AnEvent, ATime, IsOfForm, service_form};
+ghost use Rattle.hla_history.specs.Forms.{IsOfForm, service_form};
 ghost use Rattle.hla_history.specs.Hosts.{IsPlain};
-ghost use Rattle.hla_callers.specs.Callers.{HasAnswered, HasResigned, HeardAll, IsServed, said, nothing};
+ghost use Rattle.hla_callers.specs.Callers.{HasAnswered, HasResigned, HeardAll, IsServed, said};
 
-use crate::answers::{
-    Registration, callback_in, done_in, event_in, handle_in, name_in, registration_in, time_in,
-};
-use hla_base::{EventHandle, ExecutionName, Fault, FederateNo, List, Ticks};
+use crate::answers::callback_in;
+use hla_base::{ExecutionName, Fault, FederateNo};
 use hla_callbacks::{Callback, FederateAmbassador};
 use hla_callers::{Left, Locked, Seat};
 use hla_history::History;
@@ -26,8 +24,9 @@ use std::marker::Model;
 use std::sync::ledger::Ledger;
 use std::sync::{Arc, Mutex, Wait};
 
-/// A federate that has joined an execution: its calls are the services of HLA 1.3. It may be moved to a thread of its own.
-/// Contracts see the execution, the number of the federate in it, and the caller with its transcript.
+/// A federate that has joined an execution. It calls the services of HLA 1.3, each given as a value, or under its name by the traits
+/// of `hla_services`. It may be moved to a thread of its own. Contracts see the execution, the number of the federate in it, and the
+/// caller with its transcript.
 pub struct Federate<L: Ledger + Naming, B: FederateAmbassador, W: Publisher<L>, H: History<L, B>> {
     pub(crate) seat: Seat<L>,
     pub(crate) shared: Arc<Mutex<Locked<L, B, W, H>>, Global>,
@@ -64,9 +63,9 @@ impl<L: Ledger + Naming, B: FederateAmbassador, W: Publisher<L>, H: History<L, B
     H,
 > {
     /// Calls a service that is given as a value, for programs that read from a text what a federate does; each service has
-    /// a call of its own name, too. Resign is not called so, since the federate goes then. The faults are those of the service.
-    /// `HistoryFull` and `OutOfMemory` without a record, and then nothing has changed; of any other fault there is a record,
-    /// and nothing else has changed.
+    /// a call of its own name, too (`hla_services`). Resign is not called so, since the federate goes then. The faults are those
+    /// of the service. `HistoryFull` and `OutOfMemory` without a record, and then nothing has changed; of any other fault there
+    /// is a record, and nothing else has changed.
     pub fn serve(&mut self, rt: &impl Wait, service: Service) -> Result<Answer, Fault>
         requires { IsPlain (step.Call self.old.federate service) }
         ensures served { IsServed self.old service result self.new }
@@ -79,69 +78,6 @@ impl<L: Ledger + Naming, B: FederateAmbassador, W: Publisher<L>, H: History<L, B
             self.execution,
             Step::Call { federate, service },
         )
-    }
-
-    /// Calls a service that answers nothing. The faults are those of `serve`.
-    pub(crate) fn serve_done(&mut self, rt: &impl Wait, service: Service) -> Result<(), Fault>
-        requires plain { IsPlain (step.Call self.old.federate service) }
-        requires form { service_form service ≡ NoAnswer }
-        ensures { IsServed self.old service (said nothing result) self.new }
-    {
-        done_in(self.serve(rt, service))
-    }
-
-    /// Calls a service that registers an object. The faults are those of `serve`.
-    pub(crate) fn serve_registration(
-        &mut self,
-        rt: &impl Wait,
-        service: Service,
-    ) -> Result<Registration, Fault>
-        requires plain { IsPlain (step.Call self.old.federate service) }
-        requires form { service_form service ≡ ARegistration }
-        ensures { IsServed self.old service
-            (said (λ r. answer.Registered r.object r.name) result) self.new }
-    {
-        registration_in(self.serve(rt, service))
-    }
-
-    /// Calls a service that sends a message. The faults are those of `serve`.
-    pub(crate) fn serve_event(
-        &mut self,
-        rt: &impl Wait,
-        service: Service,
-    ) -> Result<Option<EventHandle>, Fault>
-        requires plain { IsPlain (step.Call self.old.federate service) }
-        requires form { service_form service ≡ AnEvent }
-        ensures { IsServed self.old service (said answer.Sent result) self.new }
-    {
-        event_in(self.serve(rt, service))
-    }
-
-    /// Calls a service that answers a time. The faults are those of `serve`.
-    pub(crate) fn serve_time(&mut self, rt: &impl Wait, service: Service) -> Result<Ticks, Fault>
-        requires plain { IsPlain (step.Call self.old.federate service) }
-        requires form { service_form service ≡ ATime }
-        ensures { IsServed self.old service (said answer.Time result) self.new }
-    {
-        time_in(self.serve(rt, service))
-    }
-
-    /// Calls a service that answers a number. The faults are those of `serve`.
-    pub(crate) fn serve_handle(&mut self, rt: &impl Wait, service: Service) -> Result<u32, Fault>
-        requires plain { IsPlain (step.Call self.old.federate service) }
-        requires form { service_form service ≡ AHandle }
-        ensures { IsServed self.old service (said answer.Handle result) self.new }
-    {
-        handle_in(self.serve(rt, service))
-    }
-
-    /// Calls a service that answers a name. The faults are those of `serve`.
-    pub(crate) fn serve_name(&mut self, rt: &impl Wait, service: Service) -> Result<List<u8>, Fault>
-        requires plain { IsPlain (step.Call self.old.federate service) }
-        requires form { service_form service ≡ AName }
-        ensures { IsServed self.old service (said answer.Name result) self.new }
-    {
-        name_in(self.serve(rt, service))
     }
 
     /// Tick (HLA 1.3): gives the federate's ambassador at most one callback, and answers a copy of it, or none where there

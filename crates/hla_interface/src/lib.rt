@@ -1,18 +1,15 @@
-//! The services of the HLA interface behind one lock, over whatever executions are kept: federates and other callers, each with a
-//! transcript of its own acts. `hla_rti` is this over federations.
+//! The HLA interface behind one lock, over whatever executions are kept: federates and other callers, each with a transcript of its
+//! own acts. A federate calls a service that is given as a value; `hla_services` has a call under each service's name. `hla_rti` is
+//! this over federations.
 #![tactic(auto)]
 
 mod answers;
 mod closing;
 mod courier;
 mod federate;
-mod object_services;
 mod rti;
-mod support_services;
-mod synchronization_services;
-mod time_services;
 
-pub use answers::Registration;
+pub use answers::done_in;
 pub use closing::NotClosed;
 pub use courier::Courier;
 pub use federate::Federate;

@@ -95,7 +95,8 @@ impl<L: Ledger + Naming, B: FederateAmbassador, W: Publisher<L>, H: History<L, B
         }
         let (book, mut rest) = blank.open::<L>();
         let share = rest.split_off(1, 0);
-        let Ok(shared) = H::new(alloc, book, history_limit) else {
+        let mut book = Some(book);
+        let Ok(shared) = H::new(alloc, &mut book, history_limit) else {
             drop(board);
             return Err(Fault::OutOfMemory);
         };

@@ -34,16 +34,16 @@ answer_told old new name a given out answered told = elim answered [
   | inr none ↦ inr (none.0, refused_exactly out none.0 (told ∙ none.1) none.2.0, none.2)
 ]
 
-module _ {L B P F : Type 0} where
+module _ {L B P H : Type 0} where
   -- ---- what a federate has done
-  pub resigned_does : (m : FederateCaller) (way : ResignAction) (l : Leaver) (p : Player L B P F) → p ≡ player.Gone l → HasResigned m.caller m.execution (act.Step (step.Call m.federate (service.Resign way))) l.caller
+  pub resigned_does : (m : FederateCaller) (way : ResignAction) (l : Leaver) (p : Player L B P H) → p ≡ player.Gone l → HasResigned m.caller m.execution (act.Step (step.Call m.federate (service.Resign way))) l.caller
       → DoesDeed m (deed.Serve (service.Resign way)) (outcome.Done answer.Done) p
   resigned_does m way l p is acted = rw is (inl (outcome.Done answer.Done, refl, acted), tt)
 
-  pub served_does : (m new : FederateCaller) (x : Service) (given : Result Answer Fault) (out : Outcome) (p : Player L B P F) → p ≡ player.Joined new → IsServed m x given new → answer_given out ≡ given → DoesDeed m (deed.Serve x) out p
+  pub served_does : (m new : FederateCaller) (x : Service) (given : Result Answer Fault) (out : Outcome) (p : Player L B P H) → p ≡ player.Joined new → IsServed m x given new → answer_given out ≡ given → DoesDeed m (deed.Serve x) out p
   unfolding IsServed
   served_does m new x given out p is served told = rw is (answer_told m.caller new.caller m.execution (act.Step (step.Call m.federate x)) given out served.2 told, (served.1, served.0))
 
-  pub ticked_does : (m new : FederateCaller) (given : Result Answer Fault) (out : Outcome) (p : Player L B P F) → p ≡ player.Joined new → HasAnswered m.caller m.execution (act.Step (step.Tick m.federate)) given new.caller → new.execution ≡ m.execution → new.federate ≡ m.federate
+  pub ticked_does : (m new : FederateCaller) (given : Result Answer Fault) (out : Outcome) (p : Player L B P H) → p ≡ player.Joined new → HasAnswered m.caller m.execution (act.Step (step.Tick m.federate)) given new.caller → new.execution ≡ m.execution → new.federate ≡ m.federate
       → answer_given out ≡ given → DoesDeed m deed.Tick out p
   ticked_does m new given out p is answered execution federate told = rw is (answer_told m.caller new.caller m.execution (act.Step (step.Tick m.federate)) given out answered told, (federate, execution))

@@ -28,7 +28,7 @@ IsDeedOf c call (deed.Refused e) = (service_of c call ≡ Err e) ⊎ (e ≡ faul
 
 -- ---- who does it
 -- the caller that a federate of a script is, or was
-abbrev pub caller_of : {L B P F : Type 0} → Player L B P F → Caller
+abbrev pub caller_of : {L B P H : Type 0} → Player L B P H → Caller
 caller_of (player.Joined f) = f.caller
 caller_of (player.Gone l) = l.caller
 
@@ -46,15 +46,15 @@ HasDone old name f (deed.Serve s) out new = HasTold old name (act.Step (step.Cal
 HasDone old name f (deed.Refused e) out new = (out ≡ outcome.Refused e) × (new ≡ old)
 
 -- it is the same federate while it is joined
-abbrev pub StaysAs : {L B P F : Type 0} → FederateCaller → Player L B P F → Type 0
+abbrev pub StaysAs : {L B P H : Type 0} → FederateCaller → Player L B P H → Type 0
 StaysAs old (player.Joined m) = (m.federate ≡ old.federate) × (m.execution ≡ old.execution)
 StaysAs old (player.Gone l) = Unit {0}
 
 -- a joined federate has done a deed
-abbrev pub DoesDeed : {L B P F : Type 0} → FederateCaller → Deed → Outcome → Player L B P F → Type 0
+abbrev pub DoesDeed : {L B P H : Type 0} → FederateCaller → Deed → Outcome → Player L B P H → Type 0
 DoesDeed old what out new = HasDone old.caller old.execution old.federate what out (caller_of new) × StaysAs old new
 
 -- it is gone only where the deed was to resign, and is told as done
-abbrev pub IsGoneBy : {L B P F : Type 0} → Deed → Outcome → Player L B P F → Type 0
+abbrev pub IsGoneBy : {L B P H : Type 0} → Deed → Outcome → Player L B P H → Type 0
 IsGoneBy what out (player.Joined m) = Unit {0}
 IsGoneBy what out (player.Gone l) = (way : ResignAction) × (what ≡ deed.Serve (service.Resign way)) × (out ≡ outcome.Done answer.Done)

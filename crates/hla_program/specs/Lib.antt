@@ -1,8 +1,2 @@
--- Two files in one input
-pub mod Parts
--- Readers and writers that keep in mind whether they failed
-pub mod Streams
--- A FED file and a script, read by their names
-pub mod Texts
 -- How a task ends
 pub mod Program

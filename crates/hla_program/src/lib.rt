@@ -1,17 +1,10 @@
-//! What the program does with the files that its command line names.
+//! What the program does with the files that its command line names: each task, handed to what plays, checks and lists, or run here
+//! with a thread for each federate.
 #![tactic(auto)]
 
-mod checking;
-mod finding;
-mod input;
-mod parts;
-mod reading;
 mod running;
-mod source;
-mod telling;
 mod threads;
 
+pub use hla_files::{Opener, Source, System, tell, tell_out_of_memory};
 pub use running::do_task;
-pub use source::{Opener, Source, System};
-pub use telling::{tell, tell_out_of_memory};
 pub use threads::Means;

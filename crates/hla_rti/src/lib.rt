@@ -1,7 +1,8 @@
 //! The run-time infrastructure behind one lock: federates and other callers, each with a transcript of its own acts.
 //!
 //! Its calls are those of `hla_interface`, which says what each does over whatever executions are kept; here they are kept as
-//! `Federation` of `hla_federation`.
+//! `Federation` of `hla_federation`. The services of a federate under their names are methods of the traits of `hla_services`, which a
+//! caller imports from here: `ObjectServices`, `TimeServices`, `SupportServices` and `SynchronizationServices`.
 #![tactic(auto)]
 
 ghost use Rattle.std.specs.Prelude.{◌≡◌, ◌<◌, ◌≤◌, ◌⊎◌, IfOk, IfErr, OnOk};
@@ -12,10 +13,13 @@ use hla_base::Fault;
 use hla_callbacks::FederateAmbassador;
 use hla_federation::Federation;
 pub use hla_interface::{
-    CloseFault, Closed, LEDGER_PARTS, Left, MAX_CALLERS, MAX_COURIERS, MAX_HISTORY_LIMIT,
-    Registration, Seat, Unsettled, settle,
+    CloseFault, Closed, LEDGER_PARTS, Left, MAX_CALLERS, MAX_COURIERS, MAX_HISTORY_LIMIT, Seat,
+    Unsettled, settle,
 };
 use hla_monitor::{Naming, Opened, Published};
+pub use hla_services::{
+    ObjectServices, Registration, SupportServices, SynchronizationServices, TimeServices,
+};
 use hla_shared::Shared;
 use std::alloc::Global;
 use std::sync::Wait;
@@ -24,7 +28,7 @@ use std::sync::ledger::{Blank, Ledger};
 /// The run-time infrastructure: `hla_interface::Rti` over federations.
 pub type Rti<L, B, W> = hla_interface::Rti<L, B, W, Shared<L, B, Federation>>;
 
-/// A joined federate, whose calls are the services of HLA 1.3: `hla_interface::Federate` over federations.
+/// A joined federate, which calls the services of HLA 1.3: `hla_interface::Federate` over federations.
 pub type Federate<L, B, W> = hla_interface::Federate<L, B, W, Shared<L, B, Federation>>;
 
 /// A caller that moves what is on the wires between federates: `hla_interface::Courier` over federations.

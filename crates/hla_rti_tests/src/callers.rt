@@ -5,7 +5,7 @@ ghost use Rattle.std.specs.Prelude.{◌≡◌, []};
 use hla_base::{ExecutionName, List};
 use hla_callbacks::{Callback, Recorder};
 use hla_monitor::{Naming, Publisher};
-use hla_rti::{Federate, Rti};
+use hla_rti::{Federate, Rti, TimeServices};
 use std::alloc::Global;
 use std::process::Abort;
 use std::sync::Wait;

@@ -4,7 +4,7 @@ use crate::callers::{check, created, joined, keep};
 use hla_base::List;
 use hla_callbacks::Recorder;
 use hla_monitor::{Monitor, Naming, Publisher, Status};
-use hla_rti::{Federate, Rti};
+use hla_rti::{Federate, ObjectServices, Rti, TimeServices};
 use std::alloc::Global;
 use std::process::Abort;
 use std::sync::Wait;

@@ -10,7 +10,7 @@ use hla_base::{ExecutionName, Fault, MAX_COURIERS};
 use hla_callbacks::Recorder;
 use hla_machine::{Carried, Outcome, Record, ResignAction};
 use hla_monitor::{Naming, Publisher};
-use hla_rti::{CloseFault, Federate, Left, NotClosed, Rti};
+use hla_rti::{CloseFault, Federate, Left, NotClosed, Rti, TimeServices};
 use std::alloc::Global;
 use std::process::Abort;
 use std::sync::Wait;

@@ -5,7 +5,7 @@ use crate::runs::FED;
 use hla_base::{ExecutionName, Ticks};
 use hla_callbacks::{Callback, Recorder};
 use hla_monitor::{Naming, Publisher};
-use hla_rti::{Courier, Federate, Left, Rti};
+use hla_rti::{Courier, Federate, Left, Rti, TimeServices};
 use std::alloc::Global;
 use std::process::Abort;
 use std::sync::Wait;

@@ -5,7 +5,7 @@ use crate::runs::FED;
 use hla_base::Fault;
 use hla_callbacks::Recorder;
 use hla_monitor::{Naming, Publisher, Told};
-use hla_rti::Rti;
+use hla_rti::{ObjectServices, Rti, TimeServices};
 use std::alloc::Global;
 use std::process::Abort;
 use std::sync::Wait;

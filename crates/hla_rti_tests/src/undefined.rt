@@ -5,7 +5,7 @@ use crate::runs::FED;
 use hla_base::{Fault, HandleValuePair, List, Value};
 use hla_callbacks::Recorder;
 use hla_monitor::{Naming, Publisher};
-use hla_rti::Rti;
+use hla_rti::{ObjectServices, Rti};
 use std::alloc::Global;
 use std::process::Abort;
 use std::sync::Wait;

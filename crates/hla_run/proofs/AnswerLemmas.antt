@@ -137,8 +137,8 @@ nothing_spent c execution f call = (λ k d below. absurd (omega (arith, below)),
 pub added_ticks : (c : CatalogueValue) (execution : List ℕ) (f : ℕ) (call : Call) (out : Outcome) (old new : Caller) → service_of c call ≡ Ok None → AddsTicks execution f out old new → AddsCall c execution f call out old new
 added_ticks c execution f call out old new asks adds = added_asked c execution f call None out adds.0 old new asks (adds.1, inr (asks, adds.2)) (λ ticks. adds.3) adds.4
 
-module _ {L B P F : Type 0} where
-  pub added_deed : (c : CatalogueValue) (call : Call) (m : FederateCaller) (d : Deed) (out : Outcome) (p : Player L B P F) → (d ≡ deed.Tick → ⊥) → IsDeedOf c call d → DoesDeed m d out p → AddsCall c m.execution m.federate call out m.caller (caller_of p)
+module _ {L B P H : Type 0} where
+  pub added_deed : (c : CatalogueValue) (call : Call) (m : FederateCaller) (d : Deed) (out : Outcome) (p : Player L B P H) → (d ≡ deed.Tick → ⊥) → IsDeedOf c call d → DoesDeed m d out p → AddsCall c m.execution m.federate call out m.caller (caller_of p)
   added_deed c call m deed.Tick out p other asks done = absurd (other refl)
   added_deed c call m (deed.Serve s) out p other asks done =
       let last : GivesUpLast c call out [] = λ ticks. (let clash : Ok None ≡ Ok (Some s) = sym ticks ∙ asks in absurd (cc)) in
@@ -173,9 +173,9 @@ told_next lines name place told before here = λ at l call within found is.
     let Told : ℕ → Type 0 = λ (p : ℕ). (m : Line) (asked : Call) → slice_get lines p ≡ Some m → m.command ≡ command.Federate name asked → (t : LineOutcome) × Contains told t × (t.place ≡ p) in
     below_more Told place (λ p below m asked. before p m asked below) here at within l call found is
 
-module _ {L B P F : Type 0} where
+module _ {L B P H : Type 0} where
   -- a line that is not the federate's
-  pub told_past : (lines : List Line) (place : ℕ) (life : Life L B P F) → ((l : Line) (call : Call) → slice_get lines place ≡ Some l → l.command ≡ command.Federate life.name call → ⊥) → IsToldTo lines place life → IsToldTo lines (place + 1) life
+  pub told_past : (lines : List Line) (place : ℕ) (life : Life L B P H) → ((l : Line) (call : Call) → slice_get lines place ≡ Some l → l.command ≡ command.Federate life.name call → ⊥) → IsToldTo lines place life → IsToldTo lines (place + 1) life
   told_past lines place life other h = (
     h.0,
     below_next place life.told.items h.1,
@@ -186,7 +186,7 @@ module _ {L B P F : Type 0} where
   )
 
   -- one that it told, or for which memory lacked
-  pub told_one : (lines : List Line) (place : ℕ) (old new : Life L B P F) (t : LineOutcome) → t.place ≡ place → new.name ≡ old.name → (new.told.items ≡ old.told.items ++ t ∷ []) ⊎ ((new.told.items ≡ old.told.items) × (new.lacks_memory ≡ true))
+  pub told_one : (lines : List Line) (place : ℕ) (old new : Life L B P H) (t : LineOutcome) → t.place ≡ place → new.name ≡ old.name → (new.told.items ≡ old.told.items ++ t ∷ []) ⊎ ((new.told.items ≡ old.told.items) × (new.lacks_memory ≡ true))
       → (old.lacks_memory ≡ true → new.lacks_memory ≡ true) → IsToldTo lines place old → IsToldTo lines (place + 1) new
   told_one lines place old new t here same (inl more) lacks h =
       let told = old.told.items ++ t ∷ [] in
@@ -212,7 +212,7 @@ module _ {L B P F : Type 0} where
   )
 
   -- none before the first line
-  pub told_first : (lines : List Line) (life : Life L B P F) → life.told.items ≡ [] → IsToldTo lines 0 life
+  pub told_first : (lines : List Line) (life : Life L B P H) → life.told.items ≡ [] → IsToldTo lines 0 life
   told_first lines life none = (
     subst ArePlacesRising (sym none) tt,
     subst (λ (ts : List LineOutcome). ArePlacesBelow 0 ts) (sym none) (λ k d within. absurd (omega (arith, within))),

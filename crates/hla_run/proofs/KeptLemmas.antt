@@ -46,8 +46,8 @@ not_false : (b : Bool) → not b ≡ false → b ≡ true
 not_false true is = refl
 not_false false is = sym is
 
-module _ {L B P F : Type 0} where
-  pub named_all : (old new : List (Life L B P F)) (name : List ℕ) → length new ≡ length old → ((k : ℕ) (d e : Life L B P F) → k < length old → IsLifeOf (get_or old k d) (get_or new k e)) → has_life old name ≡ true → has_life new name ≡ true
+module _ {L B P H : Type 0} where
+  pub named_all : (old new : List (Life L B P H)) (name : List ℕ) → length new ≡ length old → ((k : ℕ) (d e : Life L B P H) → k < length old → IsLifeOf (get_or old k d) (get_or new k e)) → has_life old name ≡ true → has_life new name ≡ true
   named_all [] new name each same has = let clash : false ≡ true = has in absurd (cc)
   named_all (x ∷ xs) [] name each same has = absurd (omega (arith, each))
   named_all (x ∷ xs) (y ∷ ys) name each same has =
@@ -58,5 +58,5 @@ module _ {L B P F : Type 0} where
       ]
 
   -- who is no stranger is one of them
-  pub known_life : (lives : List (Life L B P F)) (name : List ℕ) → is_stranger lives name ≡ false → has_life lives name ≡ true
+  pub known_life : (lives : List (Life L B P H)) (name : List ℕ) → is_stranger lives name ≡ false → has_life lives name ≡ true
   known_life lives name known = not_false (has_life lives name) known

@@ -169,9 +169,9 @@ done_recorded records execution a out given is h = elim h [
   | inr none ↦ let clash : outcome.Done given ≡ outcome.Refused none.0 = sym is ∙ none.1 in cc
 ]
 
-module _ {L B P F : Type 0} where
+module _ {L B P H : Type 0} where
   -- a federate stays the same while it is joined, and is gone once it has resigned
-  pub player_stays : (execution : List ℕ) (f : ℕ) (m : FederateCaller) (what : Deed) (out : Outcome) (p : Player L B P F) → DoesDeed m what out p → IsGoneBy what out p → (m.execution ≡ execution) × (m.federate ≡ f) → IsPlayerAs execution f p
+  pub player_stays : (execution : List ℕ) (f : ℕ) (m : FederateCaller) (what : Deed) (out : Outcome) (p : Player L B P H) → DoesDeed m what out p → IsGoneBy what out p → (m.execution ≡ execution) × (m.federate ≡ f) → IsPlayerAs execution f p
   player_stays execution f m what out (player.Joined n) done gone was = (done.1.1 ∙ was.0, done.1.0 ∙ was.1)
   player_stays execution f m what out (player.Gone l) done gone was =
       let asked : Act = act.Step (step.Call m.federate (service.Resign gone.0)) in
@@ -268,13 +268,13 @@ left_behind old mid new first second c one two own = λ history. (
 pub pair_behind : (old new : List Leaver) (c : Caller) → LeavesPair old c new → LeavesBehind old c new
 pair_behind old new c pair = left_behind old (old ++ pair.0 ∷ []) new pair.0 pair.1 c refl pair.2 pair.3
 
-module _ {L B P F : Type 0} where
-  pub gathered_more : (lives : List (Life L B P F)) (life : Life L B P F) (some all : List Leaver) (old mid new : List (Option Outcome)) → GathersRecorded lives some old mid → new ≡ with_lines_noted mid life.told.items
+module _ {L B P H : Type 0} where
+  pub gathered_more : (lives : List (Life L B P H)) (life : Life L B P H) (some all : List Leaver) (old mid new : List (Option Outcome)) → GathersRecorded lives some old mid → new ≡ with_lines_noted mid life.told.items
       → LeavesBehind some (caller_of life.player) all → GathersRecorded (lives ++ life ∷ []) all old new
   gathered_more lives life some all old mid new before noted behind = λ c lines execution history stranger recorded joined lefts outcomes.
       let left = (behind history).0 lefts in
-      let Recorded : Life L B P F → Type 0 = IsLifeRecorded c lines execution in
-      let Joined : Life L B P F → Type 0 = λ (x : Life L B P F). HasJoined history execution x.name x.number in
+      let Recorded : Life L B P H → Type 0 = IsLifeRecorded c lines execution in
+      let Joined : Life L B P H → Type 0 = λ (x : Life L B P H). HasJoined history execution x.name x.number in
       let others : All Recorded lives = λ k d below. All-contains Recorded (lives ++ life ∷ []) (get_or lives k d) recorded (Contains-append_left lives (life ∷ []) (get_or lives k d) (Contains-get_or lives k d below)) in
       let others_joined : All Joined lives = λ k d below. All-contains Joined (lives ++ life ∷ []) (get_or lives k d) joined (Contains-append_left lives (life ∷ []) (get_or lives k d) (Contains-get_or lives k d below)) in
       let own : Recorded life = All-contains Recorded (lives ++ life ∷ []) life recorded (Contains-push lives life) in
@@ -283,11 +283,11 @@ module _ {L B P F : Type 0} where
       let tellings = tellings_named c lines history (caller_of life.player).transcript stranger execution life.number life.name life.told.items own_joined left.1 own.1 in
       subst (λ (os : List (Option Outcome)). AreOutcomesRecorded c lines history stranger os) (sym noted) (all_noted_recorded c lines history stranger life.told.items mid so_far tellings)
 
-  pub gathered_all_of : (some all : List (Life L B P F)) (lefts : List Leaver) (old new : List (Option Outcome)) → some ≡ all → GathersRecorded some lefts old new → GathersRecorded all lefts old new
-  gathered_all_of some all lefts old new same h = subst (λ (ls : List (Life L B P F)). GathersRecorded ls lefts old new) same h
+  pub gathered_all_of : (some all : List (Life L B P H)) (lefts : List Leaver) (old new : List (Option Outcome)) → some ≡ all → GathersRecorded some lefts old new → GathersRecorded all lefts old new
+  gathered_all_of some all lefts old new same h = subst (λ (ls : List (Life L B P H)). GathersRecorded ls lefts old new) same h
 
   -- a life that tells nothing yet
-  pub fresh_recorded : (c : CatalogueValue) (lines : List Line) (execution : List ℕ) (life : Life L B P F) → IsFresh execution life → IsLifeRecorded c lines execution life
+  pub fresh_recorded : (c : CatalogueValue) (lines : List Line) (execution : List ℕ) (life : Life L B P H) → IsFresh execution life → IsLifeRecorded c lines execution life
   fresh_recorded c lines execution life fresh = (
     fresh.0,
     subst (λ (told : List LineOutcome). AreOwnTellings c lines (caller_of life.player).transcript execution life.number life.name told) (sym fresh.1) (λ k d below. absurd (omega (arith, below))),
@@ -295,18 +295,18 @@ module _ {L B P F : Type 0} where
   )
 
   -- ---- who has joined
-  pub fresh_more : (execution : List ℕ) (lives : List (Life L B P F)) (life : Life L B P F) → AreFresh execution lives → IsFresh execution life → AreFresh execution (lives ++ life ∷ [])
+  pub fresh_more : (execution : List ℕ) (lives : List (Life L B P H)) (life : Life L B P H) → AreFresh execution lives → IsFresh execution life → AreFresh execution (lives ++ life ∷ [])
   fresh_more execution lives life before fresh = All-push (IsFresh execution) lives life before fresh
 
-  pub joined_in : (history records : List Record) (execution : List ℕ) (lives : List (Life L B P F)) → IsTranscriptIn history records → AreJoined records execution lives → AreJoined history execution lives
+  pub joined_in : (history records : List Record) (execution : List ℕ) (lives : List (Life L B P H)) → IsTranscriptIn history records → AreJoined records execution lives → AreJoined history execution lives
   joined_in history records execution lives within h = λ k d below.
       let life = get_or lives k d in
       answer_in history records execution (act.Step (step.Join life.name)) (Ok (answer.Federate life.number)) within (h k d below)
 
-  pub joined_more : (records : List Record) (execution : List ℕ) (lives : List (Life L B P F)) (life : Life L B P F) → AreJoined records execution lives → HasJoined records execution life.name life.number → AreJoined records execution (lives ++ life ∷ [])
-  joined_more records execution lives life before own = All-push (λ (x : Life L B P F). HasJoined records execution x.name x.number) lives life before own
+  pub joined_more : (records : List Record) (execution : List ℕ) (lives : List (Life L B P H)) (life : Life L B P H) → AreJoined records execution lives → HasJoined records execution life.name life.number → AreJoined records execution (lives ++ life ∷ [])
+  joined_more records execution lives life before own = All-push (λ (x : Life L B P H). HasJoined records execution x.name x.number) lives life before own
 
   -- the lives of the same federates
-  pub joined_same : (records : List Record) (execution : List ℕ) (old new : Life L B P F) → IsLifeOf old new → HasJoined records execution old.name old.number → HasJoined records execution new.name new.number
+  pub joined_same : (records : List Record) (execution : List ℕ) (old new : Life L B P H) → IsLifeOf old new → HasJoined records execution old.name old.number → HasJoined records execution new.name new.number
   joined_same records execution old new same h =
       subst (λ (n : ℕ). HasJoined records execution new.name n) (sym same.1) (subst (λ (name : List ℕ). HasJoined records execution name old.number) (sym same.0) h)

@@ -52,40 +52,40 @@ all_own c lines records execution f own (t ∷ ts) outcomes tellings =
     openings_twice lines outcomes (with_line_noted outcomes t) (with_lines_noted (with_line_noted outcomes t) ts) first
     (all_own c lines records execution f own ts (with_line_noted outcomes t) (λ k d below. tellings (suc k) d (omega (arith, below))))
 
-module _ {L B P F : Type 0} where
-  pub calls_more : (lives : List (Life L B P F)) (life : Life L B P F) (old mid new : List (Option Outcome)) → GathersCalls lives old mid → new ≡ with_lines_noted mid life.told.items → GathersCalls (lives ++ life ∷ []) old new
+module _ {L B P H : Type 0} where
+  pub calls_more : (lives : List (Life L B P H)) (life : Life L B P H) (old mid new : List (Option Outcome)) → GathersCalls lives old mid → new ≡ with_lines_noted mid life.told.items → GathersCalls (lives ++ life ∷ []) old new
   calls_more lives life old mid new before noted = λ c lines execution recorded.
-      let Recorded : Life L B P F → Type 0 = IsLifeRecorded c lines execution in
+      let Recorded : Life L B P H → Type 0 = IsLifeRecorded c lines execution in
       let others : All Recorded lives = λ k d below. All-contains Recorded (lives ++ life ∷ []) (get_or lives k d) recorded (Contains-append_left lives (life ∷ []) (get_or lives k d) (Contains-get_or lives k d below)) in
       let own : Recorded life = All-contains Recorded (lives ++ life ∷ []) life recorded (Contains-push lives life) in
       let last = all_own c lines (caller_of life.player).transcript execution life.number life.name life.told.items mid own.1 in
       openings_same lines old (with_lines_noted mid life.told.items) new (openings_twice lines old mid (with_lines_noted mid life.told.items) (before c lines execution others) last) noted
 
-  pub calls_of : (some all : List (Life L B P F)) (old new : List (Option Outcome)) → some ≡ all → GathersCalls some old new → GathersCalls all old new
-  calls_of some all old new same h = subst (λ (ls : List (Life L B P F)). GathersCalls ls old new) same h
+  pub calls_of : (some all : List (Life L B P H)) (old new : List (Option Outcome)) → some ≡ all → GathersCalls some old new → GathersCalls all old new
+  calls_of some all old new same h = subst (λ (ls : List (Life L B P H)). GathersCalls ls old new) same h
 
   -- ---- lives
-  pub life_or : (lives : List (Life L B P F)) (life : Life L B P F) (name : List ℕ) → has_life (lives ++ life ∷ []) name ≡ (has_life lives name || (bytes_eq life.name name || false))
-  life_or lives life name = list_any-append (λ (x : Life L B P F). bytes_eq x.name name) lives (life ∷ [])
+  pub life_or : (lives : List (Life L B P H)) (life : Life L B P H) (name : List ℕ) → has_life (lives ++ life ∷ []) name ≡ (has_life lives name || (bytes_eq life.name name || false))
+  life_or lives life name = list_any-append (λ (x : Life L B P H). bytes_eq x.name name) lives (life ∷ [])
 
-  pub lives_more : (lives : List (Life L B P F)) (life : Life L B P F) → KeepsLives lives (lives ++ life ∷ [])
+  pub lives_more : (lives : List (Life L B P H)) (life : Life L B P H) → KeepsLives lives (lives ++ life ∷ [])
   lives_more lives life = λ name has. life_or lives life name ∙ or_left (has_life lives name) (bytes_eq life.name name || false) has
 
-  pub life_last : (lives : List (Life L B P F)) (life : Life L B P F) (name : List ℕ) → bytes_eq life.name name ≡ true → has_life (lives ++ life ∷ []) name ≡ true
+  pub life_last : (lives : List (Life L B P H)) (life : Life L B P H) (name : List ℕ) → bytes_eq life.name name ≡ true → has_life (lives ++ life ∷ []) name ≡ true
   life_last lives life name same = life_or lives life name ∙ or_right (has_life lives name) (bytes_eq life.name name || false) (or_left (bytes_eq life.name name) false same)
 
   -- ---- who is told to have joined
-  pub untold_lives : (lines : List Line) (lives : List (Life L B P F)) (outcomes : List (Option Outcome)) → AreNotTold outcomes → HasEachLife lines lives outcomes
+  pub untold_lives : (lines : List Line) (lives : List (Life L B P H)) (outcomes : List (Option Outcome)) → AreNotTold outcomes → HasEachLife lines lives outcomes
   untold_lives lines lives outcomes untold = λ place l o at told. let none = sym (untold place) ∙ told in absurd (cc)
 
-  life_stays : (old new : List (Life L B P F)) (asked : Command) (out : Outcome) → KeepsLives old new → HasLifeOf old asked out → HasLifeOf new asked out
+  life_stays : (old new : List (Life L B P H)) (asked : Command) (out : Outcome) → KeepsLives old new → HasLifeOf old asked out → HasLifeOf new asked out
   life_stays old new asked out keeps has = λ name f is done. keeps name (has name f is done)
 
-  pub each_life_same : (lines : List Line) (old new : List (Life L B P F)) (before after : List (Option Outcome)) → HasEachLife lines old before → KeepsLives old new → after ≡ before → HasEachLife lines new after
+  pub each_life_same : (lines : List Line) (old new : List (Life L B P H)) (before after : List (Option Outcome)) → HasEachLife lines old before → KeepsLives old new → after ≡ before → HasEachLife lines new after
   each_life_same lines old new before after each keeps same = λ place l o at told.
       life_stays old new l.command o keeps (each place l o at (subst (λ (os : List (Option Outcome)). slice_index_or os place None ≡ Some o) same told))
 
-  pub each_life_noted : (lines : List Line) (old new : List (Life L B P F)) (before after : List (Option Outcome)) (t : LineOutcome) (l : Line) → HasEachLife lines old before → KeepsLives old new → slice_get lines t.place ≡ Some l → after ≡ with_line_noted before t
+  pub each_life_noted : (lines : List Line) (old new : List (Life L B P H)) (before after : List (Option Outcome)) (t : LineOutcome) (l : Line) → HasEachLife lines old before → KeepsLives old new → slice_get lines t.place ≡ Some l → after ≡ with_line_noted before t
       → HasLifeOf new l.command t.outcome → HasEachLife lines new after
   each_life_noted lines old new before after t l each keeps at noted own = λ place m o found told.
       let here = subst (λ (os : List (Option Outcome)). slice_index_or os place None ≡ Some o) noted told in
@@ -96,11 +96,11 @@ module _ {L B P F : Type 0} where
             subst (λ (x : Line). HasLifeOf new x.command o) same (subst (λ (x : Outcome). HasLifeOf new l.command x) now.1 own)
       ]
 
-  pub each_life_kept : (lines : List Line) (lives : List (Life L B P F)) (old new : List (Option Outcome)) → KeepsOpenings lines old new → HasEachLife lines lives old → HasEachLife lines lives new
+  pub each_life_kept : (lines : List Line) (lives : List (Life L B P H)) (old new : List (Option Outcome)) → KeepsOpenings lines old new → HasEachLife lines lives old → HasEachLife lines lives new
   each_life_kept lines lives old new keeps each = λ place l o at told name f is done. each place l o at (keeps place l o at (subst IsOpeningLine (sym is) tt) told) name f is done
 
   -- who is none of the lives is a stranger
-  pub stranger_told : (lines : List Line) (lives : List (Life L B P F)) (outcomes : List (Option Outcome)) → HasEachLife lines lives outcomes → (name : List ℕ) → is_stranger lives name ≡ true → IsStranger lines outcomes name
+  pub stranger_told : (lines : List Line) (lives : List (Life L B P H)) (outcomes : List (Option Outcome)) → HasEachLife lines lives outcomes → (name : List ℕ) → is_stranger lives name ≡ true → IsStranger lines outcomes name
   stranger_told lines lives outcomes each name known = λ place l f at is told.
       let has = each place l (outcome.Done (answer.Federate f)) at told name f is refl in
       let clash : false ≡ true = subst (λ (b : Bool). not b ≡ true) has known in absurd (cc)

@@ -51,9 +51,9 @@ noted_all (t ∷ ts) outcomes place o is = elim (noted_all ts (with_line_noted o
 ]
 
 -- ---- what is left behind
-module _ {L B P F : Type 0} where
+module _ {L B P H : Type 0} where
   -- who has a name in more lives, and not the last
-  life_before : (lives : List (Life L B P F)) (life : Life L B P F) (name : List ℕ) → bytes_eq life.name name ≡ false → has_life (lives ++ life ∷ []) name ≡ true → has_life lives name ≡ true
+  life_before : (lives : List (Life L B P H)) (life : Life L B P H) (name : List ℕ) → bytes_eq life.name name ≡ false → has_life (lives ++ life ∷ []) name ≡ true → has_life lives name ≡ true
   life_before lives life name other has = elim (or_cases (has_life lives name) (bytes_eq life.name name || false) (sym (life_or lives life name) ∙ has)) [
     | inl before ↦ before
     | inr last ↦ elim (or_cases (bytes_eq life.name name) false last) [ inl same ↦ absurd (both_ways (bytes_eq life.name name) other same) | inr clash ↦ absurd (cc) ]
@@ -61,13 +61,13 @@ module _ {L B P F : Type 0} where
 
   -- the last life's own name
   -- what holds of all lives holds of those before the last, and of the last
-  split_last : (Q : Life L B P F → Type 0) (lives : List (Life L B P F)) (life : Life L B P F) → All Q (lives ++ life ∷ []) → All Q lives × Q life
+  split_last : (Q : Life L B P H → Type 0) (lives : List (Life L B P H)) (life : Life L B P H) → All Q (lives ++ life ∷ []) → All Q lives × Q life
   split_last Q lives life all = (
     λ k d below. All-contains Q (lives ++ life ∷ []) (get_or lives k d) all (Contains-append_left lives (life ∷ []) (get_or lives k d) (Contains-get_or lives k d below)),
     All-contains Q (lives ++ life ∷ []) life all (Contains-push lives life),
   )
 
-  own_caller : (c : CatalogueValue) (lines : List Line) (execution : List ℕ) (history : List Record) (life : Life L B P F) → execution ≡ codes "play" → life.lacks_memory ≡ false → Agrees history (caller_of life.player) → IsLifeRecorded c lines execution life
+  own_caller : (c : CatalogueValue) (lines : List Line) (execution : List ℕ) (history : List Record) (life : Life L B P H) → execution ≡ codes "play" → life.lacks_memory ≡ false → Agrees history (caller_of life.player) → IsLifeRecorded c lines execution life
       → IsToldTo lines (length lines) life → HasJoined history execution life.name life.number → IsCallerInTurn c lines history life.name (caller_of life.player) life.told.items
   own_caller c lines execution history life named whole agrees recorded told joined = record {
     execution = execution;
@@ -80,7 +80,7 @@ module _ {L B P F : Type 0} where
     in_turn = elim recorded.2 [ inl lacks ↦ absurd (both_ways life.lacks_memory whole lacks) | inr own ↦ own ];
   }
 
-  own_turn : (c : CatalogueValue) (lines : List Line) (history : List Record) (life : Life L B P F) (mid new : List (Option Outcome)) → new ≡ with_lines_noted mid life.told.items → life.lacks_memory ≡ false
+  own_turn : (c : CatalogueValue) (lines : List Line) (history : List Record) (life : Life L B P H) (mid new : List (Option Outcome)) → new ≡ with_lines_noted mid life.told.items → life.lacks_memory ≡ false
       → IsCallerInTurn c lines history life.name (caller_of life.player) life.told.items → IsToldTo lines (length lines) life → IsNameInTurn c lines history new life.name
   own_turn c lines history life mid new noted whole own told = record {
     caller = caller_of life.player;
@@ -98,7 +98,7 @@ module _ {L B P F : Type 0} where
   }
 
   -- another name
-  other_turn : (c : CatalogueValue) (lines : List Line) (execution : List ℕ) (history : List Record) (life : Life L B P F) (mid new : List (Option Outcome)) (name : List ℕ) → new ≡ with_lines_noted mid life.told.items → bytes_eq life.name name ≡ false
+  other_turn : (c : CatalogueValue) (lines : List Line) (execution : List ℕ) (history : List Record) (life : Life L B P H) (mid new : List (Option Outcome)) (name : List ℕ) → new ≡ with_lines_noted mid life.told.items → bytes_eq life.name name ≡ false
       → IsLifeRecorded c lines execution life → IsNameInTurn c lines history mid name → IsNameInTurn c lines history new name
   other_turn c lines execution history life mid new name noted other recorded was = record {
     caller = was.caller;
@@ -117,14 +117,14 @@ module _ {L B P F : Type 0} where
         ];
   }
 
-  pub turns_more : (lives : List (Life L B P F)) (life : Life L B P F) (some all : List Leaver) (mid new : List (Option Outcome)) → GathersInTurn lives some mid → new ≡ with_lines_noted mid life.told.items → life.lacks_memory ≡ false
+  pub turns_more : (lives : List (Life L B P H)) (life : Life L B P H) (some all : List Leaver) (mid new : List (Option Outcome)) → GathersInTurn lives some mid → new ≡ with_lines_noted mid life.told.items → life.lacks_memory ≡ false
       → LeavesBehind some (caller_of life.player) all → GathersInTurn (lives ++ life ∷ []) all new
   turns_more lives life some all mid new before noted whole behind = λ c lines execution history named recorded told joined lefts agree name has.
       let left = (behind history).0 lefts in
       let agreed = (behind history).1 agree in
       let records = split_last (IsLifeRecorded c lines execution) lives life recorded in
       let tells = split_last (IsToldTo lines (length lines)) lives life told in
-      let joins = split_last (λ (x : Life L B P F). HasJoined history execution x.name x.number) lives life joined in
+      let joins = split_last (λ (x : Life L B P H). HasJoined history execution x.name x.number) lives life joined in
       elim (cases_Bool (bytes_eq life.name name)) [
         | inl same ↦
             let here = own_turn c lines history life mid new noted whole (own_caller c lines execution history life named whole agreed.1 records.1 tells.1 joins.1) tells.1 in
@@ -134,18 +134,18 @@ module _ {L B P F : Type 0} where
             other_turn c lines execution history life mid new name noted other records.1 was
       ]
 
-  pub turns_of : (some all : List (Life L B P F)) (lefts : List Leaver) (new : List (Option Outcome)) → some ≡ all → GathersInTurn some lefts new → GathersInTurn all lefts new
-  turns_of some all lefts new same h = subst (λ (ls : List (Life L B P F)). GathersInTurn ls lefts new) same h
+  pub turns_of : (some all : List (Life L B P H)) (lefts : List Leaver) (new : List (Option Outcome)) → some ≡ all → GathersInTurn some lefts new → GathersInTurn all lefts new
+  turns_of some all lefts new same h = subst (λ (ls : List (Life L B P H)). GathersInTurn ls lefts new) same h
 
   -- ---- whose records they are
-  pub callers_more : (lives : List (Life L B P F)) (life : Life L B P F) (some all : List Leaver) → GathersCallers lives some → life.lacks_memory ≡ false → LeavesPair some (caller_of life.player) all → GathersCallers (lives ++ life ∷ []) all
+  pub callers_more : (lives : List (Life L B P H)) (life : Life L B P H) (some all : List Leaver) → GathersCallers lives some → life.lacks_memory ≡ false → LeavesPair some (caller_of life.player) all → GathersCallers (lives ++ life ∷ []) all
   callers_more lives life some all before whole pair = λ c lines execution history named recorded told joined lefts agree.
       let behind = pair_behind some all (caller_of life.player) pair in
       let left = (behind history).0 lefts in
       let agreed = (behind history).1 agree in
       let records = split_last (IsLifeRecorded c lines execution) lives life recorded in
       let tells = split_last (IsToldTo lines (length lines)) lives life told in
-      let joins = split_last (λ (x : Life L B P F). HasJoined history execution x.name x.number) lives life joined in
+      let joins = split_last (λ (x : Life L B P H). HasJoined history execution x.name x.number) lives life joined in
       let Known : Leaver → Type 0 = λ (l : Leaver). IsCallerKnown c lines history l.caller in
       let own : IsCallerKnown c lines history (caller_of life.player) = inl (life.name, life.told.items, own_caller c lines execution history life named whole agreed.1 records.1 tells.1 joins.1) in
       let first : Known pair.0 = subst (λ (x : Caller). IsCallerKnown c lines history x) (sym pair.3) own in
@@ -153,5 +153,5 @@ module _ {L B P F : Type 0} where
       let second : Known pair.1 = inr pair.4 in
       subst (λ (ls : List Leaver). All Known ls) (sym pair.2) (All-push Known (some ++ pair.0 ∷ []) pair.1 (All-push Known some pair.0 some_known first) second)
 
-  pub callers_of : (some all : List (Life L B P F)) (lefts : List Leaver) → some ≡ all → GathersCallers some lefts → GathersCallers all lefts
-  callers_of some all lefts same h = subst (λ (ls : List (Life L B P F)). GathersCallers ls lefts) same h
+  pub callers_of : (some all : List (Life L B P H)) (lefts : List Leaver) → some ≡ all → GathersCallers some lefts → GathersCallers all lefts
+  callers_of some all lefts same h = subst (λ (ls : List (Life L B P H)). GathersCallers ls lefts) same h

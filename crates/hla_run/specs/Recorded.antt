@@ -254,45 +254,45 @@ abbrev pub AreOwnTellings : CatalogueValue → List Line → List Record → Lis
 AreOwnTellings c lines records execution f name told = All (IsOwnTelling c lines records execution f name) told
 
 -- while it is joined it is this federate of the execution, and where it is gone, that has resigned by its own records
-abbrev pub IsPlayerAs : {L B P F : Type 0} → List ℕ → ℕ → Player L B P F → Type 0
+abbrev pub IsPlayerAs : {L B P H : Type 0} → List ℕ → ℕ → Player L B P H → Type 0
 IsPlayerAs execution f (player.Joined m) = (m.execution ≡ execution) × (m.federate ≡ f)
 IsPlayerAs execution f (player.Gone l) = IsResignedBy l.caller.transcript execution f
 
 -- what a federate's life tells is told of its own lines, and is in its own transcript
-abbrev pub IsLifeRecorded : {L B P F : Type 0} → CatalogueValue → List Line → List ℕ → Life L B P F → Type 0
+abbrev pub IsLifeRecorded : {L B P H : Type 0} → CatalogueValue → List Line → List ℕ → Life L B P H → Type 0
 IsLifeRecorded c lines execution life =
     IsPlayerAs execution life.number life.player × AreOwnTellings c lines (caller_of life.player).transcript execution life.number life.name life.told.items
     × ((life.lacks_memory ≡ true) ⊎ AreAnsweredInTurn c lines [] execution life.number life.name (caller_of life.player).transcript life.told.items)
 
 -- a federate has told of each of its lines before a place, in their order, unless it lacks memory
-abbrev pub IsToldTo : {L B P F : Type 0} → List Line → ℕ → Life L B P F → Type 0
+abbrev pub IsToldTo : {L B P H : Type 0} → List Line → ℕ → Life L B P H → Type 0
 IsToldTo lines k life = ArePlacesRising life.told.items × ArePlacesBelow k life.told.items × ((life.lacks_memory ≡ true) ⊎ AreToldBelow lines life.name k life.told.items)
 
 -- it is the life of the same federate
-abbrev pub IsLifeOf : {L B P F : Type 0} → Life L B P F → Life L B P F → Type 0
+abbrev pub IsLifeOf : {L B P H : Type 0} → Life L B P H → Life L B P H → Type 0
 IsLifeOf old new = (new.name ≡ old.name) × (new.number ≡ old.number)
 
 -- a life that tells nothing yet, and has done nothing
-abbrev pub IsFresh : {L B P F : Type 0} → List ℕ → Life L B P F → Type 0
+abbrev pub IsFresh : {L B P H : Type 0} → List ℕ → Life L B P H → Type 0
 IsFresh execution life = IsPlayerAs execution life.number life.player × (life.told.items ≡ []) × ((caller_of life.player).transcript ≡ [])
 
-abbrev pub AreFresh : {L B P F : Type 0} → List ℕ → List (Life L B P F) → Type 0
+abbrev pub AreFresh : {L B P H : Type 0} → List ℕ → List (Life L B P H) → Type 0
 AreFresh execution lives = All (IsFresh execution) lives
 
 -- one of the lives has this name
-abbrev pub has_life : {L B P F : Type 0} → List (Life L B P F) → List ℕ → Bool
-has_life {L = L} {B = B} {P = P} {F = F} lives name = list_any (λ (life : Life L B P F). bytes_eq life.name name) lives
+abbrev pub has_life : {L B P H : Type 0} → List (Life L B P H) → List ℕ → Bool
+has_life {L = L} {B = B} {P = P} {H = H} lives name = list_any (λ (life : Life L B P H). bytes_eq life.name name) lives
 
 -- nobody has joined under this name
-abbrev pub is_stranger : {L B P F : Type 0} → List (Life L B P F) → List ℕ → Bool
+abbrev pub is_stranger : {L B P H : Type 0} → List (Life L B P H) → List ℕ → Bool
 is_stranger lives name = not (has_life lives name)
 
 -- who is told to have joined by what a command asks for is one of the lives
-abbrev pub HasLifeOf : {L B P F : Type 0} → List (Life L B P F) → Command → Outcome → Type 0
+abbrev pub HasLifeOf : {L B P H : Type 0} → List (Life L B P H) → Command → Outcome → Type 0
 HasLifeOf lives asked out = (name : List ℕ) (f : ℕ) → asked ≡ command.Join name → out ≡ outcome.Done (answer.Federate f) → has_life lives name ≡ true
 
 -- the same of all lines that are told of
-abbrev pub HasEachLife : {L B P F : Type 0} → List Line → List (Life L B P F) → List (Option Outcome) → Type 0
+abbrev pub HasEachLife : {L B P H : Type 0} → List Line → List (Life L B P H) → List (Option Outcome) → Type 0
 HasEachLife lines lives outcomes = (place : ℕ) (l : Line) (o : Outcome) → slice_get lines place ≡ Some l → slice_index_or outcomes place None ≡ Some o → HasLifeOf lives l.command o
 
 -- nothing is told of any line
@@ -300,11 +300,11 @@ abbrev pub AreNotTold : List (Option Outcome) → Type 0
 AreNotTold outcomes = (place : ℕ) → slice_index_or outcomes place None ≡ None
 
 -- whoever is among the lives stays there
-abbrev pub KeepsLives : {L B P F : Type 0} → List (Life L B P F) → List (Life L B P F) → Type 0
+abbrev pub KeepsLives : {L B P H : Type 0} → List (Life L B P H) → List (Life L B P H) → Type 0
 KeepsLives old new = (name : List ℕ) → has_life old name ≡ true → has_life new name ≡ true
 
 -- by the records each has joined under its name, and has its number
-abbrev pub AreJoined : {L B P F : Type 0} → List Record → List ℕ → List (Life L B P F) → Type 0
+abbrev pub AreJoined : {L B P H : Type 0} → List Record → List ℕ → List (Life L B P H) → Type 0
 AreJoined records execution lives = All (λ life. HasJoined records execution life.name life.number) lives
 
 -- the caller has added records to its transcript, or none
@@ -349,17 +349,17 @@ abbrev pub IsOfficeLine : Caller → Command → Outcome → Type 0
 IsOfficeLine own command out = (c : CatalogueValue) (stranger : List ℕ → Bool) → IsLineRecorded c own.transcript stranger command out
 
 -- what lives told was added to what was told before, and they left their transcripts behind
-abbrev pub GathersRecorded : {L B P F : Type 0} → List (Life L B P F) → List Leaver → List (Option Outcome) → List (Option Outcome) → Type 0
+abbrev pub GathersRecorded : {L B P H : Type 0} → List (Life L B P H) → List Leaver → List (Option Outcome) → List (Option Outcome) → Type 0
 GathersRecorded lives lefts old new =
     (c : CatalogueValue) (lines : List Line) (execution : List ℕ) (history : List Record) (stranger : List ℕ → Bool) → All (IsLifeRecorded c lines execution) lives → AreJoined history execution lives → AreTranscriptsIn history lefts
     → AreOutcomesRecorded c lines history stranger old → AreOutcomesRecorded c lines history stranger new
 
 -- what lives told was of lines of their own, and of none that creates or joins
-abbrev pub GathersCalls : {L B P F : Type 0} → List (Life L B P F) → List (Option Outcome) → List (Option Outcome) → Type 0
+abbrev pub GathersCalls : {L B P H : Type 0} → List (Life L B P H) → List (Option Outcome) → List (Option Outcome) → Type 0
 GathersCalls lives old new = (c : CatalogueValue) (lines : List Line) (execution : List ℕ) → All (IsLifeRecorded c lines execution) lives → KeepsOpenings lines old new
 
 -- what lives told of their lines is answered in turn, by what they left behind
-abbrev pub GathersInTurn : {L B P F : Type 0} → List (Life L B P F) → List Leaver → List (Option Outcome) → Type 0
+abbrev pub GathersInTurn : {L B P H : Type 0} → List (Life L B P H) → List Leaver → List (Option Outcome) → Type 0
 GathersInTurn lives lefts new =
     (c : CatalogueValue) (lines : List Line) (execution : List ℕ) (history : List Record) → execution ≡ codes "play" → All (IsLifeRecorded c lines execution) lives → All (IsToldTo lines (length lines)) lives → AreJoined history execution lives
     → AreTranscriptsIn history lefts → AgreeAll history lefts → (name : List ℕ) → has_life lives name ≡ true → IsNameInTurn c lines history new name
@@ -369,7 +369,7 @@ abbrev pub IsCallerKnown : CatalogueValue → List Line → List Record → Call
 IsCallerKnown c lines history caller = ((name : List ℕ) × (told : List LineOutcome) × IsCallerInTurn c lines history name caller told) ⊎ All IsExchange caller.transcript
 
 -- of all that was left behind it is known whose it is
-abbrev pub GathersCallers : {L B P F : Type 0} → List (Life L B P F) → List Leaver → Type 0
+abbrev pub GathersCallers : {L B P H : Type 0} → List (Life L B P H) → List Leaver → Type 0
 GathersCallers lives lefts =
     (c : CatalogueValue) (lines : List Line) (execution : List ℕ) (history : List Record) → execution ≡ codes "play" → All (IsLifeRecorded c lines execution) lives → All (IsToldTo lines (length lines)) lives → AreJoined history execution lives
     → AreTranscriptsIn history lefts → AgreeAll history lefts → All (λ (l : Leaver). IsCallerKnown c lines history l.caller) lefts

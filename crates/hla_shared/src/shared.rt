@@ -428,18 +428,11 @@ impl<L: Ledger, B: FederateAmbassador, F: Execution> Shared<L, B, F> {
 impl<L: Ledger, B: FederateAmbassador, F: Execution> History<L, B> for Shared<L, B, F> {
     ghost value = { λ s. s };
 
-    fn new(alloc: Global, book: Book<L>, limit: usize) -> Result<Self, Fault>
-        requires { book.total ≡ 0 }
-        ensures ok { IfOk result (λ s. s ≡ record {
-          history = [];
-          limit = limit;
-          creates = 0;
-          present = 0;
-          executions = [];
-        }) }
-        ensures err { IfErr result (λ e. e ≡ Fault.OutOfMemory) }
-    {
-        Shared::new(alloc, book, limit)
+    fn new(alloc: Global, book: &mut Option<Book<L>>, limit: usize) -> Result<Self, Fault> {
+        match book.take() {
+            Some(book) => Shared::new(alloc, book, limit),
+            None => unreachable!(),
+        }
     }
 
     fn kept(&self) {

@@ -7,7 +7,7 @@ ghost use Rattle.hla_machine.specs.Directory.{Directory};
 ghost use Rattle.hla_machine.specs.Callbacks.{MayConstrain, after_constraint};
 ghost use Rattle.hla_machine.specs.declared.step.Choice.TheVariants as choices;
 ghost use Rattle.hla_accounts.specs.Accounts.{account_at, central_with};
-ghost use Rattle.hla_accounts.specs.Bags.{is_listed};
+ghost use Rattle.hla_bags.specs.Bags.{is_listed};
 ghost use Rattle.hla_accounts.specs.Calls.{are_distinct};
 ghost use Rattle.hla_verdicts.specs.Accounted.{JudgedPick};
 

@@ -15,7 +15,7 @@ use hla_base::{ExecutionName, Fault, FederateNo, ObjectNo, Ticks};
 use hla_callbacks::Callback;
 use hla_machine::Carried;
 use hla_monitor::{Monitor, Naming, Publisher, Status};
-use hla_rti::{Courier, Federate};
+use hla_rti::{Courier, Federate, ObjectServices, TimeServices};
 use std::alloc::Global;
 use std::sync::atomic::{AtomicBool, AtomicU32, Ordering};
 use std::sync::ledger::Ledger;

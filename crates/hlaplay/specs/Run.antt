@@ -5,7 +5,8 @@ use Rattle.clap.specs.Walk.{Text}
 use Rattle.clap.specs.declared.error.kind.ErrorKind.{ErrorKind}
 use Rattle.hla_transcript.specs.Watching.{Stream}
 use Rattle.hla_tasks.specs.Tasks.{NamedTask}
-use Rattle.hla_program.specs.Program.{EndsTask, WritesLine, memory_line}
+use Rattle.hla_files.specs.Program.{WritesLine, memory_line}
+use Rattle.hla_program.specs.Program.{EndsTask}
 use Rattle.hla_command_line.specs.Words.{plain_task, faults_in, task_of}
 
 -- `out` and `out'` are the standard output before and after, `err` and `err'` the standard error

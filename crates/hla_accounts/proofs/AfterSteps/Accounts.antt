@@ -6,7 +6,7 @@ use Rattle.hla_retraction.specs.SentRows.{sent_of}
 use Rattle.hla_accounts.specs.declared.account.Account.{Account}
 use Rattle.hla_machine.specs.Central.{Copy}
 use Rattle.hla_accounts.specs.Accounts.{account_at, no_account, copy_at, copy_of, AreKept}
-use Rattle.hla_accounts.proofs.Bags.Contents.{waiting_at-nil}
+use Rattle.hla_bags.proofs.Bags.Contents.{waiting_at-nil}
 
 pub nothing_sent : (m : ℕ) → sent_of [] m ≡ no_event
 unfolding sent_of

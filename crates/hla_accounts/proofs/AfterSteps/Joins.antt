@@ -17,11 +17,11 @@ use Rattle.hla_machine.specs.Machine.{after_join}
 use Rattle.hla_accounts.specs.declared.account.Account.{Account}
 use Rattle.hla_base.specs.declared.notice.Notice.{Notice}
 use Rattle.hla_synchronization.specs.Points.{announcement_of}
-use Rattle.hla_accounts.specs.Bags.{waiting_at, AreApart}
+use Rattle.hla_bags.specs.Bags.{waiting_at, AreApart}
 use Rattle.hla_accounts.specs.Notices.{without_federate}
 use Rattle.hla_accounts.specs.Accounts.{AreKept, account_at, no_account, central_with, copy_at, copy_of, offers_from, times_listed}
 use Rattle.hla_accounts.proofs.AfterSteps.Accounts.{account_at-past, nothing_sent}
-use Rattle.hla_accounts.proofs.Bags.Contents.{waiting_at-nil}
+use Rattle.hla_bags.proofs.Bags.Contents.{waiting_at-nil}
 use Rattle.hla_accounts.proofs.AfterSteps.Notices.{notices_added}
 use Rattle.hla_accounts.proofs.AfterSteps.OneAccount.{fields, field, field_same, kept_changed, upd_itself, upd_read}
 

@@ -20,8 +20,8 @@ use Rattle.hla_machine.specs.Machine.{after_arrival}
 use Rattle.hla_machine.specs.Callbacks.{with_central_row, with_demoted}
 use Rattle.hla_machine.proofs.Basics.Bags.{bag_ext, key_parts}
 use Rattle.hla_accounts.specs.declared.account.Account.{Account}
-use Rattle.hla_accounts.specs.declared.bag.Waiting.{Waiting}
-use Rattle.hla_accounts.specs.Bags.{waiting_at, AreApart, is_listed, demoted_delivery, demoted_waiting, with_listed_demoted}
+use Rattle.hla_bags.specs.declared.bag.Waiting.{Waiting}
+use Rattle.hla_bags.specs.Bags.{waiting_at, AreApart, is_listed, demoted_delivery, demoted_waiting, with_listed_demoted}
 use Rattle.hla_accounts.specs.Accounts.{AreKept, account_at, no_account, central_with, copy_at, copy_of, copy_given, offers_from, times_listed}
 
 -- a table that is written what it has

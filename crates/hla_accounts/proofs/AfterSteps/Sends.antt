@@ -11,8 +11,8 @@ use Rattle.hla_machine.specs.Directory.{Directory}
 use Rattle.hla_machine.specs.Central.{is_key}
 use Rattle.hla_machine.proofs.Basics.Bags.{key_parts}
 use Rattle.hla_accounts.specs.declared.account.Account.{Account}
-use Rattle.hla_accounts.specs.declared.bag.Waiting.{Waiting}
-use Rattle.hla_accounts.specs.Bags.{waiting_at, AreApart}
+use Rattle.hla_bags.specs.declared.bag.Waiting.{Waiting}
+use Rattle.hla_bags.specs.Bags.{waiting_at, AreApart}
 use Rattle.hla_accounts.specs.Accounts.{AreKept, account_at, central_with, copy_at, offers_from, times_listed}
 use Rattle.hla_accounts.proofs.AfterSteps.OneAccount.{field, field_same, account_at-set, upd_itself}
 

@@ -19,11 +19,11 @@ use Rattle.hla_machine.specs.Directory.{Directory}
 use Rattle.hla_machine.specs.Central as machine
 use Rattle.hla_machine.specs.Central.{Copy, CopyOrder, Ro, Tso, BelowTso, BelowAllTso, BelowWake, BelowRequest, BelowOut, BelowBound, Reached}
 use Rattle.hla_accounts.specs.declared.account.Account.{Account}
-use Rattle.hla_accounts.specs.declared.bag.Waiting.{Waiting}
-use Rattle.hla_accounts.specs.Bags.{is_of, waiting_at, AreApart}
+use Rattle.hla_bags.specs.declared.bag.Waiting.{Waiting}
+use Rattle.hla_bags.specs.Bags.{is_of, waiting_at, AreApart, ordered_stamp}
 use Rattle.hla_accounts.specs.Accounts.{AreKept, no_account, account_at, copy_of, copy_given, copy_at, central_with}
-use Rattle.hla_accounts.specs.Bounds.{is_retracted, ordered_stamp, is_at_most_waiting, is_below_all_tso, is_below_wake, is_below_request, is_below_out, leaves_below, all_leave, is_below_bound, has_reached}
-use Rattle.hla_accounts.proofs.Bags.Contents.{waiting_at-nil, waiting_at-cons, sender_and_serial}
+use Rattle.hla_accounts.specs.Bounds.{is_retracted, is_at_most_waiting, is_below_all_tso, is_below_wake, is_below_request, is_below_out, leaves_below, all_leave, is_below_bound, has_reached}
+use Rattle.hla_bags.proofs.Bags.Contents.{waiting_at-nil, waiting_at-cons, sender_and_serial}
 
 -- ---- what holds of each copy
 -- P holds of each copy in the bag, by its sender and serial

@@ -24,10 +24,10 @@ use Rattle.hla_machine.specs.Central as machine
 use Rattle.hla_machine.specs.Central.{Copy, Ro, Tso, is_key, low_entry, BelowWake, BelowAllTso}
 use Rattle.hla_machine.specs.Machine.{MayEnter, MayBound, BelowAllDemoted, MayBeNext, MayCease, AreDistinct, MayAnnounce, MayCarry, is_removal, IsCarriedCopy}
 use Rattle.hla_accounts.specs.declared.account.Account.{Account}
-use Rattle.hla_accounts.specs.declared.bag.Waiting.{Waiting}
-use Rattle.hla_accounts.specs.Bags.{waiting_at, is_listed}
+use Rattle.hla_bags.specs.declared.bag.Waiting.{Waiting}
+use Rattle.hla_bags.specs.Bags.{waiting_at, is_listed, ordered_stamp}
 use Rattle.hla_accounts.specs.Accounts.{no_account, AreKept, account_at, offers_from, times_listed, copy_of, copy_given, central_with}
-use Rattle.hla_accounts.specs.Bounds.{is_below_wake, is_retracted, ordered_stamp, demoted_stamp, is_below_all_tso, is_below_bound, is_below_out}
+use Rattle.hla_accounts.specs.Bounds.{is_below_wake, is_retracted, demoted_stamp, is_below_all_tso, is_below_bound, is_below_out}
 use Rattle.hla_accounts.specs.Calls.{is_below_wake_of, is_below_some_wake, may_enter, may_bound, is_at_most_demoted, is_below_all_demoted, may_be_next, waits_in_order, may_cease, are_distinct, is_carried, is_offered, may_carry, may_announce}
 use Rattle.hla_accounts.proofs.AfterSteps.Accounts.{account_at-past}
 use Rattle.hla_accounts.proofs.Tests.Bounds.{below_wake_decided, each_decided, Decides-leb, below_all_tso_decided, below_bound_decided, below_out_decided}

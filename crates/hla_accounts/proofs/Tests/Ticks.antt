@@ -24,10 +24,10 @@ use Rattle.hla_machine.specs.declared.step.Choice.TheVariants as choice
 use Rattle.hla_machine.specs.Callbacks.{NothingIsDue, MayTickInVain, IsDiscovered, IsCopy, MayDeliver, MayConstrain, AreBelow, is_among, MayReceive, IsFirstRo, IsFirstOfStamp, IsAtFirstPick, IsLeastKey, MayPick, MayPickIn, WhileAdvancing, MayGrantFlush, MayGrantAs, MayGrant}
 use Rattle.hla_accounts.specs.declared.account.Account.{Account}
 use Rattle.hla_accounts.specs.declared.offers.Offer.{Offer}
-use Rattle.hla_accounts.specs.declared.bag.Waiting.{Waiting}
-use Rattle.hla_accounts.specs.Bags.{waiting_at, is_listed}
+use Rattle.hla_bags.specs.declared.bag.Waiting.{Waiting}
+use Rattle.hla_bags.specs.Bags.{waiting_at, is_listed, ordered_stamp}
 use Rattle.hla_accounts.specs.Accounts.{account_at, offers_from, times_listed, copy_of, copy_given, copy_at, central_with, AreKept}
-use Rattle.hla_accounts.specs.Bounds.{is_retracted, ordered_stamp, is_below_all_tso, is_below_bound, has_reached}
+use Rattle.hla_accounts.specs.Bounds.{is_retracted, is_below_all_tso, is_below_bound, has_reached}
 use Rattle.hla_accounts.specs.Ticks.{is_nothing_due, is_advance_held, may_tick_in_vain, is_flush_granted, is_granted_as, may_grant, may_receive, is_sent_in_receive_order, is_not_earlier, is_first_ro, is_not_earlier_of_stamp, is_first_of_stamp, is_at_first_pick, is_key_le, is_not_before, is_least_key, may_pick, may_pick_as, may_pick_now, may_pick_in_turn, has_no_offer, is_discovered, may_deliver, is_moved_below, is_among_if_below, are_below, may_constrain}
 use Rattle.hla_accounts.proofs.Tests.Bounds.{each_decided, Decides-leb, below_all_tso_decided, below_bound_decided, reached_decided}
 

@@ -12,7 +12,7 @@ use Rattle.hla_machine.specs.Central.{new_central}
 use Rattle.hla_accounts.specs.declared.account.Account.{Account}
 use Rattle.hla_accounts.specs.Accounts.{central_with, copy_at, copy_of, offers_from, times_listed}
 use Rattle.hla_accounts.proofs.AfterSteps.Accounts.{nothing_sent, account_at-nil}
-use Rattle.hla_accounts.proofs.Bags.Contents.{waiting_at-nil}
+use Rattle.hla_bags.proofs.Bags.Contents.{waiting_at-nil}
 use Rattle.hla_verdicts.specs.Kept.{directory_kept}
 
 -- nobody has declared anything

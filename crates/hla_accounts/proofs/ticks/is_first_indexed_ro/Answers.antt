@@ -2,8 +2,8 @@
 use Rattle.std.proofs.Common.{◌∙◌, ap, sym, take, false}
 use Rattle.std.specs.List.{list_all}
 use Rattle.hla_accounts.specs.Ticks.{is_not_earlier}
-use Rattle.hla_accounts.proofs.Indexes.Queries.{received_keys, none_taken}
-use Rattle.hla_accounts.proofs.Indexes.Indexing.{apart_take, head_of, none_indexed}
+use Rattle.hla_accounts.proofs.Tests.Queries.{received_keys, none_taken}
+use Rattle.hla_bags.proofs.Indexes.Indexing.{apart_take, head_of, none_indexed}
 use Rattle.hla_accounts.proofs.ticks.is_first_indexed_ro.Goals as goal
 
 pub returns-in-Some : goal.returns-in-Some

@@ -13,7 +13,7 @@ loop-place-preserved g c =
     let here : Nobody place = λ at.
     let read = slice_get_read players (length players) place c.index-players-place.result refl c.loop-place-test.true c.index-players-place.is in
     let same : at.0 ≡ c.index-players-place.result = (let both : Some at.0 ≡ Some c.index-players-place.result = sym at.1 ∙ read in cc) in
-    let joined = subst (λ (o : Option (Player g.row.L.Denot g.row.B.Denot g.row.P.Denot g.row.F.Denot)). IsJoinedAs c.args.number o) same at.2 in
+    let joined = subst (λ (o : Option (Player g.row.L.Denot g.row.B.Denot g.row.P.Denot g.row.H.Denot)). IsJoinedAs c.args.number o) same at.2 in
     both_ways c.is_joined_as.result c.if-is_joined_as.false (c.is_joined_as.ensures.1 joined) in
     below_more Nobody place c.loop-place.invariant here
 

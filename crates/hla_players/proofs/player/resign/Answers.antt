@@ -8,5 +8,5 @@ use Rattle.hla_players.proofs.player.resign.Goals as goal
 
 pub returns-in-Err-clause-done : goal.returns-in-Err-clause-done
 returns-in-Err-clause-done g c =
-    let p : Player g.row.L.Denot g.row.B.Denot g.row.P.Denot g.row.F.Denot = player.Joined c.in-Err.federate in
+    let p : Player g.row.L.Denot g.row.B.Denot g.row.P.Denot g.row.H.Denot = player.Joined c.in-Err.federate in
     served_does c.args.federate c.in-Err.federate (service.Resign c.args.action) (Err c.in-Err.fault) (outcome.Refused c.in-Err.fault) p refl c.in-Err.ensures.refused refl

@@ -16,5 +16,5 @@ returns-in-Resign-clause-gone g c = subst (λ (x : Service). IsGoneBy (deed.Serv
 
 pub returns-clause-done : goal.returns-clause-done
 returns-clause-done g c =
-    let p : Player g.row.L.Denot g.row.B.Denot g.row.P.Denot g.row.F.Denot = player.Joined c.serve.new.self in
+    let p : Player g.row.L.Denot g.row.B.Denot g.row.P.Denot g.row.H.Denot = player.Joined c.serve.new.self in
     served_does c.args.federate c.serve.new.self c.args.service c.serve.result c.outcome_of-outcome.result p refl c.serve.ensures.served c.outcome_of-outcome.ensures

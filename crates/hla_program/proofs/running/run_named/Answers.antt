@@ -1,5 +1,5 @@
 use Rattle.std.proofs.Common.{refl}
-use Rattle.hla_program.specs.Program.{TextsRead, TextUnread}
+use Rattle.hla_files.specs.Program.{TextsRead, TextUnread}
 use Rattle.hla_program.proofs.running.run_named.Goals as goal
 
 pub returns-in-Ok-clause-ends : goal.returns-in-Ok-clause-ends

@@ -1,4 +1,4 @@
-use Rattle.hla_program.proofs.CheckLemmas.{histories_found}
+use Rattle.hla_program.proofs.RunLemmas.{histories_found}
 use Rattle.hla_program.proofs.threads.history_finding.Goals as goal
 
 pub returns-clause-found : goal.returns-clause-found

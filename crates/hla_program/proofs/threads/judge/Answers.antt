@@ -1,7 +1,8 @@
 use Rattle.std.proofs.Common.{refl, subst}
 use Rattle.hla_transcript.specs.Watching.{stream_of}
-use Rattle.hla_program.specs.declared.finding.Finding.{Finding}
-use Rattle.hla_program.specs.Program.{EndsTelling, Judged, Unjudged, finding_text, finding_status}
+use Rattle.hla_files.specs.declared.finding.Finding.{Finding}
+use Rattle.hla_files.specs.Program.{EndsTelling, finding_text, finding_status}
+use Rattle.hla_program.specs.Program.{Judged, Unjudged}
 use Rattle.hla_program.proofs.threads.judge.Goals as goal
 
 pub returns-in-Some-clause-ends : goal.returns-in-Some-clause-ends

@@ -1,7 +1,8 @@
 use Rattle.std.proofs.Common.{sym, ◌∙◌}
 use Rattle.hla_transcript.specs.Watching.{stream_of}
 use Rattle.hla_program.specs.Program.{Ran, RunStopped}
-use Rattle.hla_program.proofs.EndLemmas.{or-false, run_cause, run_stop_nonzero}
+use Rattle.hla_files.proofs.EndLemmas.{or-false}
+use Rattle.hla_program.proofs.RunLemmas.{run_cause, run_stop_nonzero}
 use Rattle.hla_program.proofs.threads.run_bytes.Goals as goal
 
 pub returns-in-Err-clause-ends : goal.returns-in-Err-clause-ends

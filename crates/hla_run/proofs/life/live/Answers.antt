@@ -20,8 +20,8 @@ loop-place-preserved g c =
     let own = c.loop-place.life in
     let line = c.line-item.result in
     let at = line_at lines place line c.loop-place-test.true c.line-item.is in
-    let Same : Life g.row.L.Denot g.row.B.Denot g.row.P.Denot g.row.F.Denot → Type 0 = λ life. IsLifeOf first life in
-    let Recorded : List ℕ → Life g.row.L.Denot g.row.B.Denot g.row.P.Denot g.row.F.Denot → Type 0 = λ execution life. IsLifeRecorded c.args.stage.now.catalogue.now c.args.stage.now.lines.now execution life in
+    let Same : Life g.row.L.Denot g.row.B.Denot g.row.P.Denot g.row.H.Denot → Type 0 = λ life. IsLifeOf first life in
+    let Recorded : List ℕ → Life g.row.L.Denot g.row.B.Denot g.row.P.Denot g.row.H.Denot → Type 0 = λ execution life. IsLifeRecorded c.args.stage.now.catalogue.now c.args.stage.now.lines.now execution life in
     record {
       same = elim c.match-line.branch [
         | in-Federate+then-eq w ↦ subst Same (sym w.life-is) (w.next-life.ensures.same.0 ∙ before.same.0, w.next-life.ensures.same.1 ∙ before.same.1)

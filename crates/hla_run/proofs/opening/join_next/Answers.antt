@@ -41,7 +41,7 @@ returns-clause-fresh g c = λ before.
     let pushed = c.push.ensures.items ∙ cond-true _ _ _ (ap is_ok c.in-Ok-push.is) in
     let execution = c.args.execution in
     let stands : (c.in-Ok.federate.execution ≡ execution) × (c.in-Ok.federate.federate ≡ c.number-number.result) = (ap (λ (f : FederateCaller). f.execution) c.in-Ok.ensures.federate, sym c.number-number.ensures) in
-    subst (λ (ls : List (Life g.row.L.Denot g.row.B.Denot g.row.P.Denot g.row.F.Denot)). AreFresh execution ls) (sym pushed) (fresh_more execution c.args.lives.now.items _ before (stands, c.new.ensures.items, ap (λ (f : FederateCaller). f.caller.transcript) c.in-Ok.ensures.federate))
+    subst (λ (ls : List (Life g.row.L.Denot g.row.B.Denot g.row.P.Denot g.row.H.Denot)). AreFresh execution ls) (sym pushed) (fresh_more execution c.args.lives.now.items _ before (stands, c.new.ensures.items, ap (λ (f : FederateCaller). f.caller.transcript) c.in-Ok.ensures.federate))
 
 pub returns-clause-joined : goal.returns-clause-joined
 returns-clause-joined g c = λ before.
@@ -56,13 +56,13 @@ returns-clause-joined g c = λ before.
     let grown = acted_extended old own execution _ _ c.in-Ok.ensures.joined in
     let others = joined_in own.transcript old.transcript execution c.args.lives.now.items (grown_within old own grown) before in
     let all = joined_more own.transcript execution c.args.lives.now.items _ others numbered in
-    let kept = subst (λ (ls : List (Life g.row.L.Denot g.row.B.Denot g.row.P.Denot g.row.F.Denot)). AreJoined own.transcript execution ls) (sym pushed) all in
+    let kept = subst (λ (ls : List (Life g.row.L.Denot g.row.B.Denot g.row.P.Denot g.row.H.Denot)). AreJoined own.transcript execution ls) (sym pushed) all in
     subst (λ (x : Caller). AreJoined x.transcript execution c.push.new.self.items) (sym c.courier.ensures.own) kept
 
 pub returns-clause-lives : goal.returns-clause-lives
 returns-clause-lives g c =
     let pushed = c.push.ensures.items ∙ cond-true _ _ _ (ap is_ok c.in-Ok-push.is) in
-    subst (λ (ls : List (Life g.row.L.Denot g.row.B.Denot g.row.P.Denot g.row.F.Denot)). KeepsLives c.args.lives.now.items ls) (sym pushed) (lives_more c.args.lives.now.items _)
+    subst (λ (ls : List (Life g.row.L.Denot g.row.B.Denot g.row.P.Denot g.row.H.Denot)). KeepsLives c.args.lives.now.items ls) (sym pushed) (lives_more c.args.lives.now.items _)
 
 pub returns-clause-life : goal.returns-clause-life
 returns-clause-life g c = λ name f is done.
@@ -70,7 +70,7 @@ returns-clause-life g c = λ name f is done.
     let same : c.args.name.now ≡ name = let both : command.Join c.args.name.now ≡ command.Join name = is in cc in
     let own : c.in_ok-own.own ≡ name = c.in_ok-own.ensures ∙ same in
     let last = life_last c.args.lives.now.items _ name ((bytes_eq-Decides c.in_ok-own.own name).1 own) in
-    subst (λ (ls : List (Life g.row.L.Denot g.row.B.Denot g.row.P.Denot g.row.F.Denot)). has_life ls name ≡ true) (sym pushed) last
+    subst (λ (ls : List (Life g.row.L.Denot g.row.B.Denot g.row.P.Denot g.row.H.Denot)). has_life ls name ≡ true) (sym pushed) last
 
 pub returns-in-Err-clause-life : goal.returns-in-Err-clause-life
 returns-in-Err-clause-life g c = λ name f is done. let clash : outcome.Refused c.in-Err.fault ≡ outcome.Done (answer.Federate f) = done in absurd (cc)

@@ -37,13 +37,13 @@ returns-then-are_of_all-clause-recorded g c = λ history lefts agree office here
     let lived : All (IsLifeRecorded catalogue lines execution) c.in-Ok.lives.items = λ k d below.
     let within : k < length lives = omega (arith, below, c.in-Ok.ensures.len) in
     let job = (c.in-Ok.ensures.each k d within).1 in
-    let fresh = subst (λ (life : Life g.row.L.Denot g.row.B.Denot g.row.P.Denot g.row.F.Denot). IsFresh execution life) (job.job_is job.job) (c.in_ok-lives.ensures.fresh k job.job within) in
+    let fresh = subst (λ (life : Life g.row.L.Denot g.row.B.Denot g.row.P.Denot g.row.H.Denot). IsFresh execution life) (job.job_is job.job) (c.in_ok-lives.ensures.fresh k job.job within) in
     let called : IsLifeRecorded catalogue lines execution job.job → IsLifeRecorded catalogue lines execution (get_or c.in-Ok.lives.items k d) = job.call.met.1.0 execution in
     called (fresh_recorded catalogue lines execution job.job fresh) in
     let named : AreJoined history execution c.in-Ok.lives.items = λ k d below.
     let within : k < length lives = omega (arith, below, c.in-Ok.ensures.len) in
     let job = (c.in-Ok.ensures.each k d within).1 in
-    let first = subst (λ (life : Life g.row.L.Denot g.row.B.Denot g.row.P.Denot g.row.F.Denot). HasJoined history execution life.name life.number) (job.job_is job.job) (joined k job.job within) in
+    let first = subst (λ (life : Life g.row.L.Denot g.row.B.Denot g.row.P.Denot g.row.H.Denot). HasJoined history execution life.name life.number) (job.job_is job.job) (joined k job.job within) in
     let same : IsLifeOf job.job (get_or c.in-Ok.lives.items k d) = job.call.met.0 in
     joined_same history execution job.job (get_or c.in-Ok.lives.items k d) same first in
     let told = c.in_ok-lefts.ensures.recorded catalogue lines execution history stranger lived named lefts refused in
@@ -51,21 +51,21 @@ returns-then-are_of_all-clause-recorded g c = λ history lefts agree office here
     let first = openings_twice lines c.«open».new.outcomes c.refuse_strangers.new.outcomes c.gather_all.new.outcomes c.refuse_strangers.ensures.openings calls in
     let all = openings_twice lines c.«open».new.outcomes c.gather_all.new.outcomes c.destroy.new.outcomes first c.destroy.ensures.openings in
     let first_lives : HasEachLife lines seen c.«open».new.outcomes =
-    subst (λ (ls : List (Life g.row.L.Denot g.row.B.Denot g.row.P.Denot g.row.F.Denot)). HasEachLife lines ls c.«open».new.outcomes) (sym c.as_slice.ensures.value) (c.in_ok-lives.ensures.lives untold) in
+    subst (λ (ls : List (Life g.row.L.Denot g.row.B.Denot g.row.P.Denot g.row.H.Denot)). HasEachLife lines ls c.«open».new.outcomes) (sym c.as_slice.ensures.value) (c.in_ok-lives.ensures.lives untold) in
     let each : HasEachLife lines seen c.destroy.new.outcomes = each_life_kept lines seen c.«open».new.outcomes c.destroy.new.outcomes all first_lives in
     let whole : All (IsToldTo lines (length lines)) c.in-Ok.lives.items = λ k d below.
     let within : k < length lives = omega (arith, below, c.in-Ok.ensures.len) in
     let job = (c.in-Ok.ensures.each k d within).1 in
-    let fresh = subst (λ (life : Life g.row.L.Denot g.row.B.Denot g.row.P.Denot g.row.F.Denot). IsFresh execution life) (job.job_is job.job) (c.in_ok-lives.ensures.fresh k job.job within) in
+    let fresh = subst (λ (life : Life g.row.L.Denot g.row.B.Denot g.row.P.Denot g.row.H.Denot). IsFresh execution life) (job.job_is job.job) (c.in_ok-lives.ensures.fresh k job.job within) in
     let called : IsToldTo lines 0 job.job → IsToldTo lines (length lines) (get_or c.in-Ok.lives.items k d) = job.call.met.1.1 in
     called (told_first lines job.job fresh.1) in
-    let same_names : (k : ℕ) (d e : Life g.row.L.Denot g.row.B.Denot g.row.P.Denot g.row.F.Denot) → k < length lives → IsLifeOf (get_or lives k d) (get_or c.in-Ok.lives.items k e) = λ k d e below.
+    let same_names : (k : ℕ) (d e : Life g.row.L.Denot g.row.B.Denot g.row.P.Denot g.row.H.Denot) → k < length lives → IsLifeOf (get_or lives k d) (get_or c.in-Ok.lives.items k e) = λ k d e below.
     let job = (c.in-Ok.ensures.each k e below).1 in
     let same : IsLifeOf job.job (get_or c.in-Ok.lives.items k e) = job.call.met.0 in
-    subst (λ (first : Life g.row.L.Denot g.row.B.Denot g.row.P.Denot g.row.F.Denot). IsLifeOf first (get_or c.in-Ok.lives.items k e)) (sym (job.job_is d)) same in
+    subst (λ (first : Life g.row.L.Denot g.row.B.Denot g.row.P.Denot g.row.H.Denot). IsLifeOf first (get_or c.in-Ok.lives.items k e)) (sym (job.job_is d)) same in
     let turns : (name : List ℕ) → stranger name ≡ false → IsNameInTurn catalogue lines history c.destroy.new.outcomes name = λ name known.
     let first : has_life lives name ≡ true =
-    subst (λ (ls : List (Life g.row.L.Denot g.row.B.Denot g.row.P.Denot g.row.F.Denot)). has_life ls name ≡ true) c.as_slice.ensures.value (known_life seen name known) in
+    subst (λ (ls : List (Life g.row.L.Denot g.row.B.Denot g.row.P.Denot g.row.H.Denot)). has_life ls name ≡ true) c.as_slice.ensures.value (known_life seen name known) in
     let many : length c.in-Ok.lives.items ≡ length lives = omega (arith, c.in-Ok.ensures.len) in
     let has = named_all lives c.in-Ok.lives.items name many same_names first in
     turn_kept catalogue lines history c.gather_all.new.outcomes c.destroy.new.outcomes name c.destroy.ensures.calls (c.in_ok-lefts.ensures.turns catalogue lines execution history played lived whole named lefts agree name has) in

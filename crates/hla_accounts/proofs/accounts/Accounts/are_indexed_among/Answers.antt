@@ -4,10 +4,10 @@ use Rattle.std.specs.BTreeSet as sorted
 use Rattle.std.specs.Map.Iter.{deref}
 use Rattle.std.proofs.lemmas.Iterator.Consumers.{YieldsList-from_rest}
 use Rattle.std.proofs.lemmas.Iterator.Search.{all_from_yields_List}
-use Rattle.hla_accounts.specs.declared.index.Key.{Key}
-use Rattle.hla_accounts.specs.Indexes.{waiting_name_cmp}
-use Rattle.hla_accounts.proofs.Indexes.Queries.{is_key_retracted, is_key_among, among_keys, among_names}
-use Rattle.hla_accounts.proofs.Indexes.Indexing.{apart_take, head_of}
+use Rattle.hla_bags.specs.declared.index.Key.{Key}
+use Rattle.hla_bags.specs.Indexes.{waiting_name_cmp}
+use Rattle.hla_accounts.proofs.Tests.Queries.{is_key_retracted, is_key_among, among_keys, among_names}
+use Rattle.hla_bags.proofs.Indexes.Indexing.{apart_take, head_of}
 use Rattle.hla_accounts.proofs.accounts.Accounts.are_indexed_among.Goals as goal
 
 pub returns-in-None : goal.returns-in-None

@@ -1,8 +1,8 @@
 -- Where order is not kept the message is demoted in the bag of the one account.
 use Rattle.std.proofs.Common.{◌≡◌, ◌≤◌, ◌-◌, ◌∷◌, [], ℕ, Option, length, set, subst, ap, sym, ◌∙◌}
 use Rattle.hla_machine.specs.Callbacks.{with_demoted}
-use Rattle.hla_accounts.specs.declared.bag.Waiting.{Waiting}
-use Rattle.hla_accounts.specs.Bags.{waiting_at}
+use Rattle.hla_bags.specs.declared.bag.Waiting.{Waiting}
+use Rattle.hla_bags.specs.Bags.{waiting_at}
 use Rattle.hla_accounts.specs.Accounts.{account_at, central_with}
 use Rattle.hla_accounts.proofs.AfterSteps.OneAccount.{account_read, bag_kept, demote_set, none_demoted, arrived}
 use Rattle.hla_accounts.proofs.accounts.Accounts.arrive.Goals as goal

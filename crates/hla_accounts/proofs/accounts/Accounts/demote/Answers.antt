@@ -1,8 +1,8 @@
 -- The bag of the one account is written.
 use Rattle.std.proofs.Common.{◌≡◌, ◌≤◌, ◌-◌, ℕ, Option, length, set, subst, ap, ◌∙◌}
 use Rattle.hla_machine.specs.Callbacks.{with_demoted}
-use Rattle.hla_accounts.specs.declared.bag.Waiting.{Waiting}
-use Rattle.hla_accounts.specs.Bags.{waiting_at}
+use Rattle.hla_bags.specs.declared.bag.Waiting.{Waiting}
+use Rattle.hla_bags.specs.Bags.{waiting_at}
 use Rattle.hla_accounts.specs.Accounts.{account_at, central_with}
 use Rattle.hla_accounts.proofs.AfterSteps.OneAccount.{account_read, bag_kept, demote_set, none_demoted}
 use Rattle.hla_accounts.proofs.accounts.Accounts.demote.Goals as goal

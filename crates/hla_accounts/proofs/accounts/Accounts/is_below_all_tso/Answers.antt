@@ -3,8 +3,8 @@ use Rattle.std.proofs.Common.{◌∙◌, ap, sym, drop}
 use Rattle.std.specs.List.{list_all}
 use Rattle.hla_accounts.specs.declared.account.Account.{Account}
 use Rattle.hla_accounts.specs.Bounds.{is_at_most_waiting}
-use Rattle.hla_accounts.proofs.Indexes.Indexing.{rest_decides, head_decides}
-use Rattle.hla_accounts.proofs.Bags.Stamps.{none_ordered_below}
+use Rattle.hla_bags.proofs.Indexes.Indexing.{rest_decides, head_decides}
+use Rattle.hla_accounts.proofs.Tests.Stamps.{none_ordered_below}
 use Rattle.hla_accounts.proofs.accounts.Accounts.is_below_all_tso.Goals as goal
 
 pub returns-then-has_no_ordered_below : goal.returns-then-has_no_ordered_below

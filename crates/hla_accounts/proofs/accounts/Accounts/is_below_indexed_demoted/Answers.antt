@@ -4,8 +4,8 @@ use Rattle.std.specs.Map.Iter.{deref}
 use Rattle.std.proofs.lemmas.Iterator.Consumers.{YieldsList-from_rest}
 use Rattle.std.proofs.lemmas.Iterator.Search.{all_from_yields_List}
 use Rattle.hla_accounts.specs.Calls.{is_at_most_demoted}
-use Rattle.hla_accounts.proofs.Indexes.Queries.{is_key_retracted, demoted_keys}
-use Rattle.hla_accounts.proofs.Indexes.Indexing.{apart_take, head_of, none_indexed}
+use Rattle.hla_accounts.proofs.Tests.Queries.{is_key_retracted, demoted_keys}
+use Rattle.hla_bags.proofs.Indexes.Indexing.{apart_take, head_of, none_indexed}
 use Rattle.hla_accounts.proofs.accounts.Accounts.is_below_indexed_demoted.Goals as goal
 
 pub returns-in-Some : goal.returns-in-Some

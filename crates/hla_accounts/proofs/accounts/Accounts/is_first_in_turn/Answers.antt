@@ -3,7 +3,7 @@ use Rattle.std.proofs.Common.{◌∙◌, ap, sym, drop}
 use Rattle.std.specs.List.{list_all}
 use Rattle.hla_accounts.specs.declared.account.Account.{Account}
 use Rattle.hla_accounts.specs.Ticks.{is_behind}
-use Rattle.hla_accounts.proofs.Indexes.Indexing.{rest_decides, head_decides}
+use Rattle.hla_bags.proofs.Indexes.Indexing.{rest_decides, head_decides}
 use Rattle.hla_accounts.proofs.accounts.Accounts.is_first_in_turn.Goals as goal
 
 pub returns-then-is_first_indexed_in_turn : goal.returns-then-is_first_indexed_in_turn

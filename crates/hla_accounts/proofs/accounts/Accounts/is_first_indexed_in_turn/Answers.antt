@@ -4,8 +4,8 @@ use Rattle.std.specs.Map.Iter.{deref}
 use Rattle.std.proofs.lemmas.Iterator.Consumers.{YieldsList-from_rest}
 use Rattle.std.proofs.lemmas.Iterator.Search.{all_from_yields_List}
 use Rattle.hla_accounts.specs.Ticks.{is_behind}
-use Rattle.hla_accounts.proofs.Indexes.Queries.{is_passed_over, keys_in_turn}
-use Rattle.hla_accounts.proofs.Indexes.Indexing.{apart_take, head_of, none_indexed}
+use Rattle.hla_accounts.proofs.Tests.Queries.{is_passed_over, keys_in_turn}
+use Rattle.hla_bags.proofs.Indexes.Indexing.{apart_take, head_of, none_indexed}
 use Rattle.hla_accounts.proofs.accounts.Accounts.is_first_indexed_in_turn.Goals as goal
 
 pub returns-in-Some : goal.returns-in-Some

@@ -3,7 +3,7 @@ use Rattle.std.proofs.Common.{◌∙◌, ap, sym, drop}
 use Rattle.std.specs.List.{list_all}
 use Rattle.hla_accounts.specs.declared.account.Account.{Account}
 use Rattle.hla_accounts.specs.Ticks.{is_not_earlier_of_stamp}
-use Rattle.hla_accounts.proofs.Indexes.Indexing.{rest_decides, head_decides}
+use Rattle.hla_bags.proofs.Indexes.Indexing.{rest_decides, head_decides}
 use Rattle.hla_accounts.proofs.accounts.Accounts.is_first_of_stamp.Goals as goal
 
 pub returns-then-is_first_indexed_of_stamp : goal.returns-then-is_first_indexed_of_stamp

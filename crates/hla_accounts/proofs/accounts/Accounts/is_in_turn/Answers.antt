@@ -3,7 +3,7 @@ use Rattle.std.proofs.Common.{◌≡◌, ◌∙◌, ◌&&◌, ◌||◌, not, tru
 use Rattle.hla_base.specs.Rows.{is_strict}
 use Rattle.hla_accounts.specs.Accounts.{account_at}
 use Rattle.hla_accounts.specs.Ticks.{is_not_before, is_not_earlier_of_stamp, is_first_key, is_first_of_stamp}
-use Rattle.hla_accounts.proofs.Indexes.Indexing.{all_of_both}
+use Rattle.hla_bags.proofs.Indexes.Indexing.{all_of_both}
 use Rattle.hla_accounts.proofs.accounts.Accounts.is_in_turn.Goals as goal
 
 pub returns-then-is_strict : goal.returns-then-is_strict

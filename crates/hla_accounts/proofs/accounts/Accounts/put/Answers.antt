@@ -2,7 +2,7 @@
 use Rattle.std.proofs.Common.{◌≡◌, ◌≤◌, ◌-◌, Some, length, set, subst, ap, ◌∙◌}
 use Rattle.hla_machine.specs.Central.{at_key}
 use Rattle.hla_accounts.specs.declared.account.Account.{Account}
-use Rattle.hla_accounts.specs.Bags.{waiting_at}
+use Rattle.hla_bags.specs.Bags.{waiting_at}
 use Rattle.hla_accounts.specs.Accounts.{account_at, central_with, copy_of}
 use Rattle.hla_accounts.proofs.AfterSteps.OneAccount.{account_read, account_shown, entry_set}
 use Rattle.hla_accounts.proofs.AfterSteps.Counts.{on_ok}

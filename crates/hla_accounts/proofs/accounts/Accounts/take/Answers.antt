@@ -1,8 +1,8 @@
 -- The bag of the one account is written.
 use Rattle.std.proofs.Common.{◌≡◌, ◌≤◌, ◌-◌, ℕ, Option, None, length, set, subst, ap, ◌∙◌}
 use Rattle.hla_machine.specs.Central.{at_key}
-use Rattle.hla_accounts.specs.declared.bag.Waiting.{Waiting}
-use Rattle.hla_accounts.specs.Bags.{waiting_at}
+use Rattle.hla_bags.specs.declared.bag.Waiting.{Waiting}
+use Rattle.hla_bags.specs.Bags.{waiting_at}
 use Rattle.hla_accounts.specs.Accounts.{account_at, central_with}
 use Rattle.hla_accounts.proofs.AfterSteps.OneAccount.{account_read, bag_kept, take_set, none_stays}
 use Rattle.hla_accounts.proofs.accounts.Accounts.take.Goals as goal

@@ -19,7 +19,7 @@ loop-slot-preserved-in-Ok-push-2 g c rs office set =
     let at = slice_get_read c.args.self.players.items (length c.args.self.players.items) (length c.loop-slot.yielded) c.in-Some.slot refl t.0 t.1 in
     subst (λ (n : ℕ). HaveLeft rs c.push-in-Some-slot.new.self.items 1 (n + 2)) (sym (length_push c.loop-slot.yielded c.in-Some.slot))
     (player_left rs office c.args.self c.loop-slot.lefts.items c.push-in-Some-slot.new.self.items c.leave-in-Some-slot.result (length c.loop-slot.yielded) c.in-Some-slot.player set (c.loop-slot.invariant rs office set)
-    (at ∙ ap (λ (o : Option (Player g.row.L.Denot g.row.B.Denot g.row.P.Denot g.row.F.Denot)). Some o) c.in-Some-slot.is) c.leave-in-Some-slot.ensures c.in-Ok-push.ensures.items)
+    (at ∙ ap (λ (o : Option (Player g.row.L.Denot g.row.B.Denot g.row.P.Denot g.row.H.Denot)). Some o) c.in-Some-slot.is) c.leave-in-Some-slot.ensures c.in-Ok-push.ensures.items)
 
 pub loop-slot-preserved : goal.loop-slot-preserved
 loop-slot-preserved g c rs office set n low high =

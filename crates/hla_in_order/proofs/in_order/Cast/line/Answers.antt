@@ -23,7 +23,7 @@ returns-in-Ok-Destroy-clause-led g c =
     let given : c.of.result ≡ Ok request.Destroy = cc in
     let asks = subst (λ (ms : List NamedFederate). request_of c.args.catalogue.now ms c.args.command.now ≡ Ok request.Destroy) c.as_slice.ensures.value (asks_ok c.of.result _ request.Destroy c.of.ensures given) in
     line_asked c.args.catalogue.now c.args.fed.now c.args.command.now request.Destroy c.destroy.result c.args.rti.now c.destroy.new.rti c.args.self.now c.destroy.new.self asks (c.destroy.ensures.led c.args.fed.now)
-    (ap (λ (x : Cast g.row.L.Denot g.row.B.Denot g.row.P.Denot g.row.F.Denot). x.members.items) c.destroy.ensures.same)
+    (ap (λ (x : Cast g.row.L.Denot g.row.B.Denot g.row.P.Denot g.row.H.Denot). x.members.items) c.destroy.ensures.same)
 
 pub returns-in-Ok-Step-clause-led : goal.returns-in-Ok-Step-clause-led
 returns-in-Ok-Step-clause-led g c =

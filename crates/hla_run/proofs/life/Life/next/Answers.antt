@@ -53,7 +53,7 @@ returns-clause-told g c = λ before.
     let keeps : c.args.self.lacks_memory ≡ true → c.if-lacks_memory.result ≡ true = λ lacks.
     elim c.if-lacks_memory.branch [ then-lacks_memory w ↦ w.result-is ∙ w.if-lacks_memory.true | else-lacks_memory w ↦ (let clash : false ≡ true = sym w.if-lacks_memory.false ∙ lacks in absurd (cc)) ] in
     let life = c.args.self in
-    let new : Life g.row.L.Denot g.row.B.Denot g.row.P.Denot g.row.F.Denot =
+    let new : Life g.row.L.Denot g.row.B.Denot g.row.P.Denot g.row.H.Denot =
     record { name = life.name; number = life.number; player = life.player; courier = life.courier; told = c.push.new.self; lacks_memory = c.if-lacks_memory.result } in
     told_one c.args.stage.now.lines.now c.args.place life new told refl refl
     (⊎_elim (λ (y : is_ok c.push.result ≡ true). inl (c.push.ensures.items ∙ cond-true _ _ _ y)) (λ (n : is_ok c.push.result ≡ false). inr (c.push.ensures.items ∙ cond-false _ _ _ n, lacking n)) (cases_Bool (is_ok c.push.result))) keeps before
