@@ -272,6 +272,12 @@ IsToldTo lines k life = ArePlacesRising life.told.items × ArePlacesBelow k life
 abbrev pub IsLifeOf : {L B P H : Type 0} → Life L B P H → Life L B P H → Type 0
 IsLifeOf old new = (new.name ≡ old.name) × (new.number ≡ old.number)
 
+-- what a life has become once it has done its lines
+pub record HasLived {L B P H : Type 0} (c : CatalogueValue) (lines : List Line) (old new : Life L B P H) : Type 0 where
+  pub same : IsLifeOf old new  -- of the same federate
+  pub recorded : (execution : List ℕ) → IsLifeRecorded c lines execution old → IsLifeRecorded c lines execution new
+  pub told : IsToldTo lines 0 old → IsToldTo lines (length lines) new
+
 -- a life that tells nothing yet, and has done nothing
 abbrev pub IsFresh : {L B P H : Type 0} → List ℕ → Life L B P H → Type 0
 IsFresh execution life = IsPlayerAs execution life.number life.player × (life.told.items ≡ []) × ((caller_of life.player).transcript ≡ [])

@@ -4,7 +4,7 @@ ghost use Rattle.std.specs.Prelude.{◌≡◌, ◌↔◌, ◌+◌, ℕ, List, No
 ghost use Rattle.hla_machine.specs.declared.step.Answer.TheVariants as answer;
 ghost use Rattle.hla_machine.specs.declared.step.Outcome.TheVariants as outcome;
 ghost use Rattle.hla_players.specs.Deeds.{caller_of};
-ghost use Rattle.hla_run.specs.Recorded.{AddsCall, AddsTicks, IsCallAt, IsLifeOf, IsLifeRecorded, IsPlayerAs, IsToldTo};
+ghost use Rattle.hla_run.specs.Recorded.{AddsCall, AddsTicks, HasLived, IsCallAt, IsLifeOf, IsLifeRecorded, IsPlayerAs, IsToldTo};
 
 use hla_base::{ExecutionName, Fault, FederateNo, List};
 use hla_callbacks::FederateAmbassador;
@@ -261,7 +261,7 @@ impl<L: Ledger + Naming, B: FederateAmbassador, P: Publisher<L>, H: History<L, B
 }
 
 /// Does the federate's lines of the script, in order.
-pub fn live<L: Ledger + Naming, B: FederateAmbassador, P: Publisher<L>, H: History<L, B>, G: Gate>(
+fn live<L: Ledger + Naming, B: FederateAmbassador, P: Publisher<L>, H: History<L, B>, G: Gate>(
     rt: &impl Wait,
     stage: &Stage<G>,
     mut life: Life<L, B, P, H>,
@@ -282,4 +282,27 @@ pub fn live<L: Ledger + Naming, B: FederateAmbassador, P: Publisher<L>, H: Histo
     }
     stage.room.leave(rt);
     life
+}
+
+/// What a thread of a run does its lines of a script for: a `Life`. Whoever gives threads to many needs no more of them than this.
+pub trait Living: Drop {
+    ghost use Rattle.std.specs.Prelude.{List};
+    ghost use Rattle.hla_catalogue.specs.CatalogueValue.{CatalogueValue};
+    ghost use Rattle.hla_commands.specs.declared.lines.Line.{Line};
+
+    // What it has become once it has done its lines of a script.
+    ghost has_lived: { CatalogueValue → List Line → Self → Self → Type 0 };
+
+    /// Does its lines of the script, in order.
+    fn live_through<G: Gate>(self, rt: &impl Wait, stage: &Stage<'_, G>) -> Self
+        ensures { has_lived stage.now.catalogue.now stage.now.lines.now self result };
+}
+
+impl<L: Ledger + Naming, B: FederateAmbassador, P: Publisher<L>, H: History<L, B>> Living
+    for Life<L, B, P, H> {
+    ghost has_lived = { λ catalogue lines old new. HasLived catalogue lines old new };
+
+    fn live_through<G: Gate>(self, rt: &impl Wait, stage: &Stage<'_, G>) -> Self {
+        live(rt, stage, self)
+    }
 }

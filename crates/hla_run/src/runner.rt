@@ -3,17 +3,17 @@
 //! Here and in the modules beside it what is large goes to `drop` by name: such a call is proved once, and what goes out of
 //! scope is taken apart, variant by variant, in the proof of each function that lets it.
 
-ghost use Rattle.std.specs.Prelude.{◌≡◌, ◌||◌, ◌≤◌, ℕ, [], false, IfOk, OnOk, IfErr, length, vec_len, List, None, replicate, true};
+ghost use Rattle.std.specs.Prelude.{◌≡◌, ◌||◌, ◌<◌, ◌≤◌, ℕ, slice_index_or, [], false, IfOk, OnOk, IfErr, length, vec_len, List, None, replicate, true};
 ghost use Rattle.std.specs.List.{All};
 ghost use Rattle.hla_base.specs.Limits.{ledger_parts};
 ghost use Rattle.hla_history.specs.Creating.{catalogue_from};
 ghost use Rattle.hla_players.specs.Deeds.{caller_of};
 ghost use Rattle.hla_outcomes.specs.Joining.{joins, script_joins};
 ghost use Rattle.hla_run.specs.Accounted.{IsRunRecorded, IsToldRecorded, RecordsTold};
-ghost use Rattle.hla_run.specs.Recorded.{GathersCallers, GathersCalls, GathersInTurn, GathersRecorded, IsLifeOf, IsLifeRecorded, IsToldTo, LeavesPair};
+ghost use Rattle.hla_run.specs.Recorded.{GathersCallers, GathersCalls, GathersInTurn, GathersRecorded, LeavesPair};
 ghost use Rattle.hla_outcomes.specs.Running.{AreAllDone, AreTold, IsRunFrom, IsSeen, StopsRun, StopsTelling, is_unwritten_run, with_lines_noted};
 
-use crate::life::{Life, Stage, live};
+use crate::life::{Life, Living, Stage};
 use crate::opening::{destroy, open, refuse_strangers};
 use hla_base::{ExecutionName, Fault, MAX_HISTORY};
 use hla_callbacks::FederateAmbassador;
@@ -94,6 +94,27 @@ fn number_of<L: Ledger + Naming, B: FederateAmbassador, P: Publisher<L>, H: Hist
     }
 }
 
+/// Does the lines of the federates of a script, each federate's on a thread of its own. `OutOfMemory` where a growth was refused
+/// before a thread began.
+fn live_all<T: Living + Send, G: Gate + Sync, R: Threads + Wait + Sync>(
+    rt: &R,
+    stage: &Stage<'_, G>,
+    lives: Vec<T>,
+) -> Result<Vec<T>, Fault>
+    ensures each { IfOk result (λ after. length after.items ≡ length lives.items) }
+    ensures lived { IfOk result (λ after. (k : ℕ) (d e : T) → k < length lives.items
+        → T.has_lived stage.now.catalogue.now stage.now.lines.now
+        (slice_index_or lives.items k d) (slice_index_or after.items k e)) }
+{
+    let lived = |life: T| -> T
+        ensures { T.has_lived stage.entry.now.catalogue.now stage.entry.now.lines.now life result }
+    { life.live_through(rt, stage) };
+    match thread::map_vec(rt, lives, &lived) {
+        Ok(lives) => Ok(lives),
+        Err(_) => Err(Fault::OutOfMemory),
+    }
+}
+
 /// Does the lines of a script: those that create and join in their order, then those of the federates, each on a thread of
 /// its own, and then those that destroy. What all leave behind; an error is want of memory outside the steps.
 fn run_lines<
@@ -135,17 +156,7 @@ fn run_lines<
         joined: number_of(lives.as_slice()),
         room: RestingRoom::new(lives.len()),
     };
-    let lived = |life: Life<L, B, P, H>| -> Life<L, B, P, H>
-        ensures same { IsLifeOf life result }
-        ensures recorded { (execution : List ℕ)
-            → IsLifeRecorded stage.entry.catalogue.now stage.entry.lines.now execution life
-            → IsLifeRecorded stage.entry.catalogue.now stage.entry.lines.now execution result }
-        ensures told { IsToldTo stage.entry.lines.now 0 life
-            → IsToldTo stage.entry.lines.now (length stage.entry.lines.now) result }
-    { live(rt, &stage, life) };
-    let Ok(lives) = thread::map_vec(rt, lives, &lived) else {
-        return Err(Fault::OutOfMemory);
-    };
+    let lives = live_all(rt, &stage, lives)?;
     let lefts = gather_all(alloc, lives, outcomes)?;
     destroy(rt, rti, execution, lines, outcomes);
     if outcomes.are_of_all(lines) {
