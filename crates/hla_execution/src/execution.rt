@@ -38,6 +38,13 @@ pub trait Execution: Drop {
     fn is_joined_by_any(&self) -> bool
         ensures { result ≡ is_joined_by_any (central (state_of (value self.now))) };
 
+    /// What the next step would choose, if it were this one: from which stamp on a federate may send that enables regulation,
+    /// or which messages move to receive order. Nothing changes. `OutOfMemory` where the list of those was refused room.
+    fn choice(&self, step: &Step) -> Result<Choice, Fault>
+        ensures ok { IfOk result
+            (λ c. c ≡ (next (state_of (value self.now)) step.now).choice) }
+        ensures err { IfErr result (λ e. e ≡ Fault.OutOfMemory) };
+
     /// How the next step would end and what it would choose, if it were this one. Nothing changes. `OutOfMemory` where a
     /// growth was refused.
     fn foresee(&self, step: &Step) -> Result<Foreseen, Fault>

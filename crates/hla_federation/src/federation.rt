@@ -206,6 +206,10 @@ impl Execution for Federation {
         Federation::is_joined_by_any(self)
     }
 
+    fn choice(&self, step: &Step) -> Result<Choice, Fault> {
+        Federation::choice(self, step)
+    }
+
     fn foresee(&self, step: &Step) -> Result<Foreseen, Fault> {
         Federation::foresee(self, step)
     }

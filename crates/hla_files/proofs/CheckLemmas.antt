@@ -7,9 +7,9 @@ use Rattle.std.proofs.lemmas.Option.{slice_get_within}
 use Rattle.hla_machine.specs.declared.step.Record.{Record}
 use Rattle.hla_machine.specs.Runs.{Executions, no_executions, AllowedAct, after_act, AreRun}
 use Rattle.hla_checker.specs.Faults.{IsWholeRun, IsRunUpTo, IsNoStep}
-use Rattle.hla_script.specs.declared.player.PlayFault.{PlayFault}
-use Rattle.hla_script.specs.declared.player.PlayFault.TheVariants as unplayed
-use Rattle.hla_script.specs.Playing.{StopsBy}
+use Rattle.hla_stage.specs.declared.player.PlayFault.{PlayFault}
+use Rattle.hla_stage.specs.declared.player.PlayFault.TheVariants as unplayed
+use Rattle.hla_stage.specs.Playing.{StopsBy}
 use Rattle.hla_transcript.specs.Watching.{Stream}
 use Rattle.hla_files.specs.declared.finding.Finding.{Finding}
 use Rattle.hla_files.specs.declared.finding.Finding.TheVariants.{Run, Differs}

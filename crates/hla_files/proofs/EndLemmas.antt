@@ -7,11 +7,11 @@ use Rattle.hla_transcript.specs.Listed.{IsListed, IsListedInPart, is_failed_list
 use Rattle.hla_transcript.proofs.WriteLemmas.{appends_none}
 use Rattle.hla_transcript.specs.declared.listing.ListFault.{ListFault}
 use Rattle.hla_transcript.specs.declared.listing.ListFault.TheVariants as unlisted
-use Rattle.hla_script.specs.declared.player.PlayFault.{PlayFault}
-use Rattle.hla_script.specs.declared.player.PlayFault.TheVariants as unplayed
-use Rattle.hla_script.specs.Following.{FollowNext}
-use Rattle.hla_script.specs.Playing.{IsPlayedFrom, StopsBy, is_failed_transcript}
-use Rattle.hla_script.proofs.BreakLemmas.{broken_behind}
+use Rattle.hla_stage.specs.declared.player.PlayFault.{PlayFault}
+use Rattle.hla_stage.specs.declared.player.PlayFault.TheVariants as unplayed
+use Rattle.hla_stage.specs.Following.{FollowNext}
+use Rattle.hla_stage.specs.Playing.{IsPlayedFrom, StopsBy, is_failed_transcript}
+use Rattle.hla_stage.proofs.BreakLemmas.{broken_behind}
 use Rattle.hla_transcript.specs.Watching.{Stream}
 use Rattle.hla_files.specs.Program.{WritesLine, Whole, Cut, Complains, PlayCause, ListCause, memory_line}
 

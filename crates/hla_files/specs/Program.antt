@@ -5,16 +5,16 @@ use Rattle.hla_fed_file.specs.Fault.{kind_name_of}
 use Rattle.hla_fed_file.specs.declared.fault.FedFault.{FedFault}
 use Rattle.hla_commands.specs.FaultName.{kind_name}
 use Rattle.hla_transcript.specs.Listed.{IsListed, StopsListing}
-use Rattle.hla_script.specs.Playing.{IsPlayedFrom, IsPlayedWhole, StopsBy}
-use Rattle.hla_script.specs.Following.{FollowNext}
+use Rattle.hla_stage.specs.Playing.{IsPlayedFrom, IsPlayedWhole, StopsBy}
+use Rattle.hla_stage.specs.Following.{FollowNext}
 use Rattle.hla_commands.specs.declared.lines.ScriptFault.{ScriptFault}
 use Rattle.hla_machine.specs.declared.step.Record.{Record}
 use Rattle.hla_checker.specs.Faults.{IsWholeRun, IsRunUpTo, IsNoStep}
 use Rattle.hla_monitor.specs.declared.status.Status.{Status}
 use Rattle.hla_transcript.specs.declared.listing.ListFault.{ListFault}
 use Rattle.hla_transcript.specs.declared.listing.ListFault.TheVariants as unlisted
-use Rattle.hla_script.specs.declared.player.PlayFault.{PlayFault}
-use Rattle.hla_script.specs.declared.player.PlayFault.TheVariants as unplayed
+use Rattle.hla_stage.specs.declared.player.PlayFault.{PlayFault}
+use Rattle.hla_stage.specs.declared.player.PlayFault.TheVariants as unplayed
 use Rattle.hla_outcomes.specs.declared.fault.RunFault.{RunFault}
 use Rattle.hla_outcomes.specs.declared.fault.RunFault.TheVariants as unran
 use Rattle.hla_files.specs.declared.finding.Finding.{Finding}

@@ -8,7 +8,7 @@ use crate::telling::{DIFFERS, DONE, tell, tell_out_of_memory, tell_unwritten};
 use hla_checker::{CheckFault, check_run};
 use hla_machine::Record;
 use hla_monitor::Status;
-use hla_script::Watched;
+use hla_transcript::Watched;
 use std::alloc::{AllocError, Global};
 use std::io::Write;
 

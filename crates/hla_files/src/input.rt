@@ -5,7 +5,7 @@ ghost use Rattle.hla_transcript.specs.Watching.{stream_of};
 ghost use Rattle.hla_files.specs.Streams.{IsTaken, LoadStops};
 
 use hla_base::{MAX_FED_FILE, MAX_SCRIPT};
-use hla_script::Watched;
+use hla_transcript::Watched;
 use std::alloc::Global;
 use std::io::Read;
 

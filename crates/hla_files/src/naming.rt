@@ -9,14 +9,16 @@ use crate::input::{FILE_LIMIT, load};
 use crate::reading::read_texts;
 use crate::source::Opener;
 use crate::telling::{DONE, tell_list_stop, tell_load_stop, tell_play_stop};
-use hla_script::{ListFault, PlayFault, Watched, list, play};
+use hla_execution::Execution;
+use hla_stage::{PlayFault, play_over};
+use hla_transcript::{ListFault, Watched, list};
 use std::alloc::Global;
 use std::io::Write;
 
 /// Plays a script over a FED file, and answers the status: 0 once the transcript is on `out`, all of it handed on, and nothing
 /// on `errors`; 1 with one line on `errors` for the first fault of the FED file, or else for that of the script, with nothing on
 /// `out`, and for a failed write or want of memory.
-fn play_bytes<W: Write, E: Write>(
+fn play_bytes<F: Execution, W: Write, E: Write>(
     alloc: Global,
     fed: &[u8],
     script: &[u8],
@@ -28,7 +30,7 @@ fn play_bytes<W: Write, E: Write>(
         (stream_of E.contents errors.old) (stream_of E.contents errors.new) result }
     ensures handed_on { result ≡ 0 → out.new.is_handed_on ≡ true }
 {
-    let _records = match play(alloc, fed, script, out) {
+    let _records = match play_over::<F, W>(alloc, fed, script, out) {
         Ok(records) => records,
         Err(fault) => return tell_play_stop(alloc, errors, fault),
     };
@@ -65,8 +67,8 @@ fn list_bytes<W: Write, E: Write>(
 }
 
 /// Plays the script of a name over the FED file of a name. Answers as `play_bytes` does, and 1 with one line on `errors`, and
-/// nothing on `out`, where one of them cannot be read. It waits for nothing: it returns.
-pub fn play_named<O: Opener, W: Write, E: Write>(
+/// nothing on `out`, where one of them cannot be read. It waits for nothing: it returns. `F` is how the execution is kept.
+pub fn play_named<F: Execution, O: Opener, W: Write, E: Write>(
     alloc: Global,
     opener: &O,
     fed: &str,
@@ -82,15 +84,16 @@ pub fn play_named<O: Opener, W: Write, E: Write>(
     match read_texts(alloc, opener, fed, script) {
         Ok(texts) => {
             let (fed, script) = texts.both();
-            play_bytes(alloc, fed, script, out, errors)
+            play_bytes::<F, W, E>(alloc, fed, script, out, errors)
         }
         Err(unread) => tell_load_stop(alloc, errors, unread.name, unread.fault),
     }
 }
 
 /// Has the records judged that the script of a name makes over the FED file of a name. Answers as `check_bytes` does, and 1 with
-/// one line on `errors`, and nothing on `out`, where one of them cannot be read. It waits for nothing: it returns.
-pub fn check_named<O: Opener, W: Write, E: Write>(
+/// one line on `errors`, and nothing on `out`, where one of them cannot be read. It waits for nothing: it returns. `F` is how the
+/// execution is kept.
+pub fn check_named<F: Execution, O: Opener, W: Write, E: Write>(
     alloc: Global,
     opener: &O,
     fed: &str,
@@ -106,7 +109,7 @@ pub fn check_named<O: Opener, W: Write, E: Write>(
     match read_texts(alloc, opener, fed, script) {
         Ok(texts) => {
             let (fed, script) = texts.both();
-            check_bytes(alloc, fed, script, out, errors)
+            check_bytes::<F, W, E>(alloc, fed, script, out, errors)
         }
         Err(unread) => tell_load_stop(alloc, errors, unread.name, unread.fault),
     }

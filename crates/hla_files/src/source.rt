@@ -3,7 +3,7 @@
 ghost use Rattle.std.specs.Prelude.{◌≡◌, ℕ, List, None, false};
 ghost use Rattle.std.specs.declared.option.Option.{Option};
 
-use hla_script::Watched;
+use hla_transcript::Watched;
 use std::io::Read;
 use std::rt::Runtime;
 use std::{fs, io};

@@ -5,10 +5,11 @@ ghost use Rattle.hla_transcript.specs.Watching.{stream_of};
 ghost use Rattle.hla_files.specs.Program.{WritesLine, TellsPlayStop, TellsRunStop, TellsListStop, TellsLoadStop, fault_line, fed_line, script_line, unread_line, memory_line, unwritten_line, transcripts_line, monitor_line, run_stop_status};
 
 use crate::input::LoadFault;
+use hla_commands::ScriptFault;
 use hla_fed_file::FedFault;
 use hla_outcomes::RunFault;
-use hla_script::{ListFault, PlayFault, ScriptFault, Watched};
-use hla_transcript::write_whole;
+use hla_stage::PlayFault;
+use hla_transcript::{ListFault, Watched, write_whole};
 use std::alloc::{AllocError, Global};
 use std::io::Write;
 

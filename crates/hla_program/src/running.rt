@@ -7,6 +7,7 @@ ghost use Rattle.hla_tasks.specs.Tasks.{Running, named_task};
 ghost use Rattle.hla_program.specs.Program.{EndsTask};
 
 use crate::threads::{Means, run_bytes};
+use hla_federation::Federation;
 use hla_files::{Opener, check_named, list_named, play_named, read_texts, tell_load_stop};
 use hla_monitor::Naming;
 use hla_tasks::Task;
@@ -85,10 +86,10 @@ pub fn do_task<
 {
     match task {
         Task::Play { fed, script } => {
-            play_named::<O, W, E>(means.alloc, opener, fed, script, out, errors)
+            play_named::<Federation, O, W, E>(means.alloc, opener, fed, script, out, errors)
         }
         Task::Check { fed, script } => {
-            check_named::<O, W, E>(means.alloc, opener, fed, script, out, errors)
+            check_named::<Federation, O, W, E>(means.alloc, opener, fed, script, out, errors)
         }
         Task::Run {
             fed,

@@ -1,7 +1,7 @@
 use Rattle.std.proofs.Common.{refl, sym, ◌∙◌}
 use Rattle.hla_files.specs.Program.{Played, PlayStopped}
 use Rattle.hla_files.proofs.EndLemmas.{flushed, played_kept, played_unheld, play_cause}
-use Rattle.hla_script.specs.declared.player.PlayFault.TheVariants as stop
+use Rattle.hla_stage.specs.declared.player.PlayFault.TheVariants as stop
 use Rattle.hla_files.proofs.naming.play_bytes.Goals as goal
 
 pub returns-in-Err-clause-ends : goal.returns-in-Err-clause-ends
