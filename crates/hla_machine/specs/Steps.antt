@@ -1,4 +1,4 @@
--- `==` of steps, outcomes, acts and records tells them apart, and a clone is the same, part by part
+-- `==` of steps, outcomes, acts and records tells them apart, part by part
 use Rattle.std.specs.Prelude.{◌≡◌, Bool, false, ◌&&◌, ◌⊎◌, refl}
 use Rattle.std.proofs.Common.{inl, inr, ap, rules}
 use Rattle.std.proofs.lemmas.Bool.{and_left, and_right}
@@ -6,11 +6,9 @@ use Rattle.hla_base.specs.contracts.plain.U32Plain.TheImpl.Laws.{exact-law as sa
 use Rattle.hla_base.specs.contracts.plain.U8Plain.TheImpl.Laws.{lists-law as same_name}
 use Rattle.hla_catalogue.specs.contracts.catalogue.CataloguePlain.TheImpl.Laws.{options-law as same_catalogue}
 use Rattle.hla_callbacks.specs.contracts.callback.CallbackPlain.TheImpl.Laws.{exact-law as same_callback}
-use Rattle.hla_machine.specs.Services.{same_service, cloned_service}
+use Rattle.hla_machine.specs.Services.{same_service}
 use Rattle.hla_machine.specs.contracts.step.AnswerPlain.TheImpl.Laws.{exact-law as same_answer}
 use Rattle.hla_machine.specs.contracts.step.ChoicePlain.TheImpl.Laws.{exact-law as same_choice}
-use Rattle.hla_machine.specs.contracts.step.StepClone.TheImpl.{ghosts as step_clones}
-use Rattle.hla_machine.specs.contracts.step.ActClone.TheImpl.{ghosts as act_clones}
 use Rattle.hla_machine.specs.contracts.step.StepPartialEq.TheImpl.{ghosts as steps}
 use Rattle.hla_machine.specs.contracts.step.OutcomePartialEq.TheImpl.{ghosts as outcomes}
 use Rattle.hla_machine.specs.contracts.step.ActPartialEq.TheImpl.{ghosts as acts}
@@ -39,20 +37,6 @@ same_step (Carry f g) y = search rules
 same_step (Announce f) y = search rules
 same_step (Tick f) y = search rules
 
-pub cloned_step : (x y : Step) → step_clones.is_clone x y → y ≡ x
-cloned_step (Call f s) (Call g t) h =
-    let caller : g ≡ f = search rules in
-    let called : t ≡ s = search (cloned_service) in
-    λ i. Call (caller i) (called i)
-cloned_step (Call f s) (Join n) h = absurd h
-cloned_step (Call f s) (Carry g k) h = absurd h
-cloned_step (Call f s) (Announce g) h = absurd h
-cloned_step (Call f s) (Tick g) h = absurd h
-cloned_step (Join n) y h = search rules
-cloned_step (Carry f g) y h = search rules
-cloned_step (Announce f) y h = search rules
-cloned_step (Tick f) y h = search rules
-
 pub same_outcome : (x y : Outcome) → (outcomes.eq x y ≡ false) ⊎ (x ≡ y)
 same_outcome (outcome.Done a) (outcome.Done b) = elim (same_answer a b) [ inl apart ↦ inl apart | inr same ↦ inr (ap outcome.Done same) ]
 same_outcome (outcome.Done a) (outcome.Refused e) = inl refl
@@ -72,17 +56,6 @@ same_act act.Destroy (act.Step s) = inl refl
 same_act (act.Step s) (act.Create d) = inl refl
 same_act (act.Step s) act.Destroy = inl refl
 same_act (act.Step s) (act.Step t) = elim (same_step s t) [ inl apart ↦ inl apart | inr same ↦ inr (ap act.Step same) ]
-
-pub cloned_act : (x y : Act) → act_clones.is_clone x y → y ≡ x
-cloned_act (act.Step s) (act.Step t) h = let stepped : t ≡ s = search (cloned_step) in ap act.Step stepped
-cloned_act (act.Step s) (act.Create d) h = absurd h
-cloned_act (act.Step s) act.Destroy h = absurd h
-cloned_act (act.Create c) (act.Step t) h = absurd h
-cloned_act (act.Create c) act.Destroy h = absurd h
-cloned_act (act.Create c) (act.Create d) h = search rules
-cloned_act act.Destroy (act.Step t) h = absurd h
-cloned_act act.Destroy (act.Create d) h = absurd h
-cloned_act act.Destroy act.Destroy h = refl
 
 pub same_record : (x y : Record) → (records.eq x y ≡ false) ⊎ (x ≡ y)
 same_record x y = elim (both_exact _ _ (same_number x.actor y.actor) (both_exact _ _ (same_name x.execution y.execution) (both_exact _ _ (same_act x.act y.act) (both_exact _ _ (same_outcome x.outcome y.outcome) (same_choice x.choice y.choice))))) [

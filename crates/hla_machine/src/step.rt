@@ -7,9 +7,10 @@ use crate::service::Service;
 use hla_base::{EventHandle, Fault, FederateNo, List, ObjectNo, Plain, SharedList, Ticks};
 use hla_callbacks::Callback;
 use hla_catalogue::Catalogue;
+use std::alloc::AllocError;
 
 /// One step of a federation execution.
-#[derive(Clone, PartialEq, Eq, Debug, Drop)]
+#[derive(PartialEq, Eq, Debug, Drop)]
 pub enum Step {
     /// Join Federation Execution, under a name of 1 to 64 bytes.
     Join {
@@ -53,7 +54,7 @@ pub enum Carried {
 }
 
 /// What a step answers that was done.
-#[derive(Clone, PartialEq, Eq, Debug, Drop)]
+#[derive(PartialEq, Eq, Debug, Drop)]
 pub enum Answer {
     /// The call has no answer.
     Done,
@@ -78,7 +79,7 @@ pub enum Answer {
 }
 
 /// How a step ended.
-#[derive(Clone, PartialEq, Eq, Debug, Drop)]
+#[derive(PartialEq, Eq, Debug, Drop)]
 pub enum Outcome {
     /// It was done.
     Done(Answer),
@@ -89,7 +90,7 @@ pub enum Outcome {
 }
 
 /// What a caller asked for.
-#[derive(Clone, PartialEq, Eq, Drop)]
+#[derive(PartialEq, Eq, Drop)]
 pub enum Act {
     /// Create Federation Execution, with what the FED file was read as; none where it was refused.
     Create { catalogue: Option<Catalogue> },
@@ -100,7 +101,7 @@ pub enum Act {
 }
 
 /// What the definitions leave open and the step has fixed, so that a record determines the state after it.
-#[derive(Clone, PartialEq, Eq, Debug, Drop)]
+#[derive(PartialEq, Eq, Debug, Drop)]
 pub enum Choice {
     /// Nothing was left open.
     None,
@@ -111,7 +112,7 @@ pub enum Choice {
 }
 
 /// One act of the history.
-#[derive(Clone, PartialEq, Eq, Drop)]
+#[derive(PartialEq, Eq, Drop)]
 pub struct Record {
     /// The caller's number.
     pub actor: u32,
@@ -122,12 +123,38 @@ pub struct Record {
     pub choice: Choice,
 }
 
+impl Clone for Step {
+    ghost is_clone = { λ x y. y ≡ x };
+
+    fn clone(&self) -> Result<Step, AllocError> {
+        Ok(match self {
+            Step::Join { name } => Step::Join {
+                name: name.clone()?,
+            },
+            Step::Call { federate, service } => Step::Call {
+                federate: *federate,
+                service: service.clone()?,
+            },
+            Step::Carry { from, to } => Step::Carry {
+                from: *from,
+                to: *to,
+            },
+            Step::Announce { federate } => Step::Announce {
+                federate: *federate,
+            },
+            Step::Tick { federate } => Step::Tick {
+                federate: *federate,
+            },
+        })
+    }
+}
+
 impl Plain for Step {
-    ghost use Rattle.hla_machine.specs.Steps.{same_step, cloned_step};
+    ghost use Rattle.hla_machine.specs.Steps.{same_step};
 
     ghost exact = { same_step };
 
-    ghost cloned = { cloned_step };
+    ghost cloned = { λ x y same. same };
 }
 
 impl Plain for Carried {
@@ -136,12 +163,46 @@ impl Plain for Carried {
     ghost cloned = { Prim.search rules };
 }
 
+impl Clone for Answer {
+    ghost is_clone = { λ x y. y ≡ x };
+
+    fn clone(&self) -> Result<Answer, AllocError> {
+        Ok(match self {
+            Answer::Done => Answer::Done,
+            Answer::Federate(number) => Answer::Federate(*number),
+            Answer::Registered { object, name } => Answer::Registered {
+                object: *object,
+                name: name.clone()?,
+            },
+            Answer::Handle(number) => Answer::Handle(*number),
+            Answer::Name(name) => Answer::Name(name.clone()?),
+            Answer::Sent(event) => Answer::Sent(*event),
+            Answer::Time(time) => Answer::Time(*time),
+            Answer::Ticked(callback) => Answer::Ticked(callback.clone()?),
+            Answer::Carried(carried) => Answer::Carried(*carried),
+            Answer::Announced(time) => Answer::Announced(*time),
+        })
+    }
+}
+
 impl Plain for Answer {
     ghost use Rattle.hla_callbacks.specs.contracts.callback.CallbackPlain.TheImpl.Laws.{options-law as same_callbacks};
 
     ghost exact = { Prim.search (rules, same_callbacks) };
 
-    ghost cloned = { Prim.search rules };
+    ghost cloned = { λ x y same. same };
+}
+
+impl Clone for Outcome {
+    ghost is_clone = { λ x y. y ≡ x };
+
+    fn clone(&self) -> Result<Outcome, AllocError> {
+        Ok(match self {
+            Outcome::Done(answer) => Outcome::Done(answer.clone()?),
+            Outcome::Refused(fault) => Outcome::Refused(*fault),
+            Outcome::Failed(callback) => Outcome::Failed(callback.clone()?),
+        })
+    }
 }
 
 impl Plain for Outcome {
@@ -149,15 +210,41 @@ impl Plain for Outcome {
 
     ghost exact = { same_outcome };
 
-    ghost cloned = { Prim.search rules };
+    ghost cloned = { λ x y same. same };
+}
+
+impl Clone for Act {
+    ghost is_clone = { λ x y. y ≡ x };
+
+    fn clone(&self) -> Result<Act, AllocError> {
+        Ok(match self {
+            Act::Create { catalogue } => Act::Create {
+                catalogue: catalogue.clone()?,
+            },
+            Act::Destroy => Act::Destroy,
+            Act::Step(step) => Act::Step(step.clone()?),
+        })
+    }
 }
 
 impl Plain for Act {
-    ghost use Rattle.hla_machine.specs.Steps.{same_act, cloned_act};
+    ghost use Rattle.hla_machine.specs.Steps.{same_act};
 
     ghost exact = { same_act };
 
-    ghost cloned = { cloned_act };
+    ghost cloned = { λ x y same. same };
+}
+
+impl Clone for Choice {
+    ghost is_clone = { λ x y. y ≡ x };
+
+    fn clone(&self) -> Result<Choice, AllocError> {
+        Ok(match self {
+            Choice::None => Choice::None,
+            Choice::Entry(time) => Choice::Entry(*time),
+            Choice::Moved(events) => Choice::Moved(events.clone()?),
+        })
+    }
 }
 
 impl Plain for Choice {
@@ -165,28 +252,52 @@ impl Plain for Choice {
 
     ghost exact = { Prim.search (rules, same_events) };
 
-    ghost cloned = { Prim.search rules };
+    ghost cloned = { λ x y same. same };
+}
+
+impl Clone for Record {
+    ghost is_clone = { λ x y. y ≡ x };
+
+    fn clone(&self) -> Result<Record, AllocError> {
+        let execution = self.execution.clone()?;
+        let act = match self.act.clone() {
+            Ok(act) => act,
+            Err(refused) => {
+                drop(execution);
+                return Err(refused);
+            }
+        };
+        let outcome = match self.outcome.clone() {
+            Ok(outcome) => outcome,
+            Err(refused) => {
+                drop(execution);
+                drop(act);
+                return Err(refused);
+            }
+        };
+        let choice = match self.choice.clone() {
+            Ok(choice) => choice,
+            Err(refused) => {
+                drop(execution);
+                drop(act);
+                drop(outcome);
+                return Err(refused);
+            }
+        };
+        Ok(Record {
+            actor: self.actor,
+            execution,
+            act,
+            outcome,
+            choice,
+        })
+    }
 }
 
 impl Plain for Record {
     ghost use Rattle.hla_machine.specs.Steps.{same_record};
-    ghost use Rattle.hla_machine.specs.contracts.step.ActPlain.TheImpl.Laws.{cloned-law as cloned_act};
-    ghost use Rattle.hla_machine.specs.contracts.step.OutcomePlain.TheImpl.Laws.{cloned-law as cloned_outcome};
-    ghost use Rattle.hla_machine.specs.contracts.step.ChoicePlain.TheImpl.Laws.{cloned-law as cloned_choice};
 
     ghost exact = { same_record };
 
-    ghost cloned = { λ x y h.
-        let actor : y.actor ≡ x.actor = Prim.search rules in
-        let execution : y.execution ≡ x.execution = Prim.search rules in
-        let act : y.act ≡ x.act = Prim.search (cloned_act) in
-        let outcome : y.outcome ≡ x.outcome = Prim.search (cloned_outcome) in
-        let choice : y.choice ≡ x.choice = Prim.search (cloned_choice) in
-        λ i. record {
-          actor = actor i;
-          execution = execution i;
-          act = act i;
-          outcome = outcome i;
-          choice = choice i;
-        } };
+    ghost cloned = { λ x y same. same };
 }
