@@ -182,130 +182,138 @@ impl Clone for Service {
     ghost is_clone = { λ x y. y ≡ x };
 
     fn clone(&self) -> Result<Service, AllocError> {
-        Ok(match self {
-            Service::Resign { action } => Service::Resign { action: *action },
-            Service::PublishObjectClass { class, attributes } => Service::PublishObjectClass {
+        match self {
+            Service::Resign { action } => Ok(Service::Resign { action: *action }),
+            Service::PublishObjectClass { class, attributes } => Ok(Service::PublishObjectClass {
                 class: *class,
                 attributes: attributes.clone()?,
-            },
-            Service::UnpublishObjectClass { class } => Service::UnpublishObjectClass {
+            }),
+            Service::UnpublishObjectClass { class } => Ok(Service::UnpublishObjectClass {
                 class: *class,
-            },
-            Service::SubscribeObjectClassAttributes { class, attributes } =>
+            }),
+            Service::SubscribeObjectClassAttributes { class, attributes } => Ok(
                 Service::SubscribeObjectClassAttributes {
                     class: *class,
                     attributes: attributes.clone()?,
                 },
-            Service::UnsubscribeObjectClass { class } => Service::UnsubscribeObjectClass {
+            ),
+            Service::UnsubscribeObjectClass { class } => Ok(Service::UnsubscribeObjectClass {
                 class: *class,
-            },
-            Service::PublishInteractionClass { class } => Service::PublishInteractionClass {
+            }),
+            Service::PublishInteractionClass { class } => Ok(Service::PublishInteractionClass {
                 class: *class,
-            },
-            Service::UnpublishInteractionClass { class } => Service::UnpublishInteractionClass {
+            }),
+            Service::UnpublishInteractionClass { class } => Ok(Service::UnpublishInteractionClass {
                 class: *class,
-            },
-            Service::SubscribeInteractionClass { class } => Service::SubscribeInteractionClass {
+            }),
+            Service::SubscribeInteractionClass { class } => Ok(Service::SubscribeInteractionClass {
                 class: *class,
-            },
-            Service::UnsubscribeInteractionClass { class } => Service::UnsubscribeInteractionClass {
-                class: *class,
-            },
-            Service::RegisterObjectInstance { class, name } => Service::RegisterObjectInstance {
-                class: *class,
-                name: name.clone()?,
-            },
+            }),
+            Service::UnsubscribeInteractionClass { class } => Ok(
+                Service::UnsubscribeInteractionClass { class: *class },
+            ),
+            Service::RegisterObjectInstance { class, name } => Ok(
+                Service::RegisterObjectInstance {
+                    class: *class,
+                    name: name.clone()?,
+                },
+            ),
             Service::UpdateAttributeValues {
                 object,
                 values,
                 stamp,
-            } => Service::UpdateAttributeValues {
+            } => Ok(Service::UpdateAttributeValues {
                 object: *object,
                 values: values.clone()?,
                 stamp: *stamp,
-            },
+            }),
             Service::SendInteraction {
                 class,
                 values,
                 stamp,
-            } => Service::SendInteraction {
+            } => Ok(Service::SendInteraction {
                 class: *class,
                 values: values.clone()?,
                 stamp: *stamp,
-            },
-            Service::DeleteObjectInstance { object, stamp } => Service::DeleteObjectInstance {
+            }),
+            Service::DeleteObjectInstance { object, stamp } => Ok(Service::DeleteObjectInstance {
                 object: *object,
                 stamp: *stamp,
-            },
+            }),
             Service::ChangeAttributeOrderType {
                 object,
                 attributes,
                 order,
-            } => Service::ChangeAttributeOrderType {
+            } => Ok(Service::ChangeAttributeOrderType {
                 object: *object,
                 attributes: attributes.clone()?,
                 order: *order,
-            },
-            Service::ChangeInteractionOrderType { class, order } =>
+            }),
+            Service::ChangeInteractionOrderType { class, order } => Ok(
                 Service::ChangeInteractionOrderType {
                     class: *class,
                     order: *order,
                 },
-            Service::Retract { event } => Service::Retract { event: *event },
-            Service::RegisterFederationSynchronizationPoint { label } =>
+            ),
+            Service::Retract { event } => Ok(Service::Retract { event: *event }),
+            Service::RegisterFederationSynchronizationPoint { label } => Ok(
                 Service::RegisterFederationSynchronizationPoint {
                     label: label.clone()?,
                 },
-            Service::SynchronizationPointAchieved { label } =>
+            ),
+            Service::SynchronizationPointAchieved { label } => Ok(
                 Service::SynchronizationPointAchieved {
                     label: label.clone()?,
                 },
-            Service::EnableTimeRegulation { time, lookahead } => Service::EnableTimeRegulation {
+            ),
+            Service::EnableTimeRegulation { time, lookahead } => Ok(
+                Service::EnableTimeRegulation {
+                    time: *time,
+                    lookahead: *lookahead,
+                },
+            ),
+            Service::DisableTimeRegulation => Ok(Service::DisableTimeRegulation),
+            Service::EnableTimeConstrained => Ok(Service::EnableTimeConstrained),
+            Service::DisableTimeConstrained => Ok(Service::DisableTimeConstrained),
+            Service::TimeAdvanceRequest { time } => Ok(Service::TimeAdvanceRequest { time: *time }),
+            Service::TimeAdvanceRequestAvailable { time } => Ok(
+                Service::TimeAdvanceRequestAvailable { time: *time },
+            ),
+            Service::NextEventRequest { time } => Ok(Service::NextEventRequest { time: *time }),
+            Service::NextEventRequestAvailable { time } => Ok(Service::NextEventRequestAvailable {
                 time: *time,
+            }),
+            Service::FlushQueueRequest { time } => Ok(Service::FlushQueueRequest { time: *time }),
+            Service::ModifyLookahead { lookahead } => Ok(Service::ModifyLookahead {
                 lookahead: *lookahead,
-            },
-            Service::DisableTimeRegulation => Service::DisableTimeRegulation,
-            Service::EnableTimeConstrained => Service::EnableTimeConstrained,
-            Service::DisableTimeConstrained => Service::DisableTimeConstrained,
-            Service::TimeAdvanceRequest { time } => Service::TimeAdvanceRequest { time: *time },
-            Service::TimeAdvanceRequestAvailable { time } => Service::TimeAdvanceRequestAvailable {
-                time: *time,
-            },
-            Service::NextEventRequest { time } => Service::NextEventRequest { time: *time },
-            Service::NextEventRequestAvailable { time } => Service::NextEventRequestAvailable {
-                time: *time,
-            },
-            Service::FlushQueueRequest { time } => Service::FlushQueueRequest { time: *time },
-            Service::ModifyLookahead { lookahead } => Service::ModifyLookahead {
-                lookahead: *lookahead,
-            },
-            Service::EnableAsynchronousDelivery => Service::EnableAsynchronousDelivery,
-            Service::DisableAsynchronousDelivery => Service::DisableAsynchronousDelivery,
-            Service::QueryLbts => Service::QueryLbts,
-            Service::QueryFederateTime => Service::QueryFederateTime,
-            Service::QueryMinNextEventTime => Service::QueryMinNextEventTime,
-            Service::QueryLookahead => Service::QueryLookahead,
-            Service::GetObjectClassHandle { name } => Service::GetObjectClassHandle {
+            }),
+            Service::EnableAsynchronousDelivery => Ok(Service::EnableAsynchronousDelivery),
+            Service::DisableAsynchronousDelivery => Ok(Service::DisableAsynchronousDelivery),
+            Service::QueryLbts => Ok(Service::QueryLbts),
+            Service::QueryFederateTime => Ok(Service::QueryFederateTime),
+            Service::QueryMinNextEventTime => Ok(Service::QueryMinNextEventTime),
+            Service::QueryLookahead => Ok(Service::QueryLookahead),
+            Service::GetObjectClassHandle { name } => Ok(Service::GetObjectClassHandle {
                 name: name.clone()?,
-            },
-            Service::GetInteractionClassHandle { name } => Service::GetInteractionClassHandle {
+            }),
+            Service::GetInteractionClassHandle { name } => Ok(Service::GetInteractionClassHandle {
                 name: name.clone()?,
-            },
-            Service::GetAttributeHandle { name, class } => Service::GetAttributeHandle {
+            }),
+            Service::GetAttributeHandle { name, class } => Ok(Service::GetAttributeHandle {
                 name: name.clone()?,
                 class: *class,
-            },
-            Service::GetParameterHandle { name, class } => Service::GetParameterHandle {
+            }),
+            Service::GetParameterHandle { name, class } => Ok(Service::GetParameterHandle {
                 name: name.clone()?,
                 class: *class,
-            },
-            Service::GetObjectInstanceHandle { name } => Service::GetObjectInstanceHandle {
+            }),
+            Service::GetObjectInstanceHandle { name } => Ok(Service::GetObjectInstanceHandle {
                 name: name.clone()?,
-            },
-            Service::GetObjectInstanceName { object } => Service::GetObjectInstanceName {
+            }),
+            Service::GetObjectInstanceName { object } => Ok(Service::GetObjectInstanceName {
                 object: *object,
-            },
-        })
+            }),
+        }
     }
 }
 

@@ -127,25 +127,25 @@ impl Clone for Step {
     ghost is_clone = { λ x y. y ≡ x };
 
     fn clone(&self) -> Result<Step, AllocError> {
-        Ok(match self {
-            Step::Join { name } => Step::Join {
+        match self {
+            Step::Join { name } => Ok(Step::Join {
                 name: name.clone()?,
-            },
-            Step::Call { federate, service } => Step::Call {
+            }),
+            Step::Call { federate, service } => Ok(Step::Call {
                 federate: *federate,
                 service: service.clone()?,
-            },
-            Step::Carry { from, to } => Step::Carry {
+            }),
+            Step::Carry { from, to } => Ok(Step::Carry {
                 from: *from,
                 to: *to,
-            },
-            Step::Announce { federate } => Step::Announce {
+            }),
+            Step::Announce { federate } => Ok(Step::Announce {
                 federate: *federate,
-            },
-            Step::Tick { federate } => Step::Tick {
+            }),
+            Step::Tick { federate } => Ok(Step::Tick {
                 federate: *federate,
-            },
-        })
+            }),
+        }
     }
 }
 
@@ -167,21 +167,21 @@ impl Clone for Answer {
     ghost is_clone = { λ x y. y ≡ x };
 
     fn clone(&self) -> Result<Answer, AllocError> {
-        Ok(match self {
-            Answer::Done => Answer::Done,
-            Answer::Federate(number) => Answer::Federate(*number),
-            Answer::Registered { object, name } => Answer::Registered {
+        match self {
+            Answer::Done => Ok(Answer::Done),
+            Answer::Federate(number) => Ok(Answer::Federate(*number)),
+            Answer::Registered { object, name } => Ok(Answer::Registered {
                 object: *object,
                 name: name.clone()?,
-            },
-            Answer::Handle(number) => Answer::Handle(*number),
-            Answer::Name(name) => Answer::Name(name.clone()?),
-            Answer::Sent(event) => Answer::Sent(*event),
-            Answer::Time(time) => Answer::Time(*time),
-            Answer::Ticked(callback) => Answer::Ticked(callback.clone()?),
-            Answer::Carried(carried) => Answer::Carried(*carried),
-            Answer::Announced(time) => Answer::Announced(*time),
-        })
+            }),
+            Answer::Handle(number) => Ok(Answer::Handle(*number)),
+            Answer::Name(name) => Ok(Answer::Name(name.clone()?)),
+            Answer::Sent(event) => Ok(Answer::Sent(*event)),
+            Answer::Time(time) => Ok(Answer::Time(*time)),
+            Answer::Ticked(callback) => Ok(Answer::Ticked(callback.clone()?)),
+            Answer::Carried(carried) => Ok(Answer::Carried(*carried)),
+            Answer::Announced(time) => Ok(Answer::Announced(*time)),
+        }
     }
 }
 
@@ -197,11 +197,11 @@ impl Clone for Outcome {
     ghost is_clone = { λ x y. y ≡ x };
 
     fn clone(&self) -> Result<Outcome, AllocError> {
-        Ok(match self {
-            Outcome::Done(answer) => Outcome::Done(answer.clone()?),
-            Outcome::Refused(fault) => Outcome::Refused(*fault),
-            Outcome::Failed(callback) => Outcome::Failed(callback.clone()?),
-        })
+        match self {
+            Outcome::Done(answer) => Ok(Outcome::Done(answer.clone()?)),
+            Outcome::Refused(fault) => Ok(Outcome::Refused(*fault)),
+            Outcome::Failed(callback) => Ok(Outcome::Failed(callback.clone()?)),
+        }
     }
 }
 
@@ -217,13 +217,13 @@ impl Clone for Act {
     ghost is_clone = { λ x y. y ≡ x };
 
     fn clone(&self) -> Result<Act, AllocError> {
-        Ok(match self {
-            Act::Create { catalogue } => Act::Create {
+        match self {
+            Act::Create { catalogue } => Ok(Act::Create {
                 catalogue: catalogue.clone()?,
-            },
-            Act::Destroy => Act::Destroy,
-            Act::Step(step) => Act::Step(step.clone()?),
-        })
+            }),
+            Act::Destroy => Ok(Act::Destroy),
+            Act::Step(step) => Ok(Act::Step(step.clone()?)),
+        }
     }
 }
 
@@ -239,11 +239,11 @@ impl Clone for Choice {
     ghost is_clone = { λ x y. y ≡ x };
 
     fn clone(&self) -> Result<Choice, AllocError> {
-        Ok(match self {
-            Choice::None => Choice::None,
-            Choice::Entry(time) => Choice::Entry(*time),
-            Choice::Moved(events) => Choice::Moved(events.clone()?),
-        })
+        match self {
+            Choice::None => Ok(Choice::None),
+            Choice::Entry(time) => Ok(Choice::Entry(*time)),
+            Choice::Moved(events) => Ok(Choice::Moved(events.clone()?)),
+        }
     }
 }
 
@@ -259,37 +259,12 @@ impl Clone for Record {
     ghost is_clone = { λ x y. y ≡ x };
 
     fn clone(&self) -> Result<Record, AllocError> {
-        let execution = self.execution.clone()?;
-        let act = match self.act.clone() {
-            Ok(act) => act,
-            Err(refused) => {
-                drop(execution);
-                return Err(refused);
-            }
-        };
-        let outcome = match self.outcome.clone() {
-            Ok(outcome) => outcome,
-            Err(refused) => {
-                drop(execution);
-                drop(act);
-                return Err(refused);
-            }
-        };
-        let choice = match self.choice.clone() {
-            Ok(choice) => choice,
-            Err(refused) => {
-                drop(execution);
-                drop(act);
-                drop(outcome);
-                return Err(refused);
-            }
-        };
         Ok(Record {
             actor: self.actor,
-            execution,
-            act,
-            outcome,
-            choice,
+            execution: self.execution.clone()?,
+            act: self.act.clone()?,
+            outcome: self.outcome.clone()?,
+            choice: self.choice.clone()?,
         })
     }
 }
