@@ -3,10 +3,10 @@
 //!
 //!     hla_workload NAME FEDERATES AMOUNT ROUNDS SEED
 //!
-//! `federation` runs federates on threads through the infrastructure, `check` has recorded runs judged, `steps` plays a federation in one
-//! process, and `scripts` plays scripts; `small` does a little of each. `endure` is `federation` under hard conditions: the ambassador of the
-//! first federate fails in callbacks by chance, a monitor is read all the while, and the records are judged at the end. It prints how many
-//! there are, too, and on standard error how often the ambassador failed and the monitor was read.
+//! `federation` runs federates on threads through the infrastructure, `check` has recorded runs judged, and `steps` plays a federation in
+//! one process; `small` does a little of each. `endure` is `federation` under hard conditions: the ambassador of the first federate fails in
+//! callbacks by chance, a monitor is read all the while, and the records are judged at the end. It prints how many there are, too, and on
+//! standard error how often the ambassador failed and the monitor was read.
 #![tactic(auto)]
 
 mod checks;
@@ -16,10 +16,8 @@ mod federates;
 mod plays;
 mod random;
 mod running;
-mod scripts;
 mod sizes;
 mod stage;
-mod texts;
 mod values;
 
 use crate::digest::Digest;
@@ -35,7 +33,7 @@ use std::thread::Threads;
 use std::{env, io};
 
 const USAGE: &str =
-    "usage: hla_workload federation|endure|check|steps|scripts|small FEDERATES AMOUNT ROUNDS SEED";
+    "usage: hla_workload federation|endure|check|steps|small FEDERATES AMOUNT ROUNDS SEED";
 
 /// The next word, as a number.
 fn number(words: &mut Args) -> Option<u32> {
@@ -65,7 +63,6 @@ fn small<R: Threads + Wait + Sync>(rt: &R, alloc: Global, sizes: Sizes) -> Resul
     digest.add(running::run(rt, alloc, sizes, false)?.digest.value);
     digest.add(checks::run(alloc, sizes)?.value);
     digest.add(checks::run_plays(alloc, sizes)?.value);
-    digest.add(scripts::run_plays(alloc, sizes)?.value);
     Ok(digest)
 }
 
@@ -81,7 +78,6 @@ fn done<R: Threads + Wait + Sync>(
         "endure" => return Some(running::run(rt, alloc, sizes, true)),
         "check" => checks::run(alloc, sizes),
         "steps" => checks::run_plays(alloc, sizes),
-        "scripts" => scripts::run_plays(alloc, sizes),
         "small" => small(rt, alloc, sizes),
         _ => return None,
     };
