@@ -8,10 +8,20 @@ use crate::shared_list::SharedList;
 use crate::value::Value;
 
 /// An attribute or a parameter, by its number, with its value.
-#[derive(Clone, PartialEq, Eq, Debug, Drop)]
+#[derive(Clone, PartialEq, Eq, Debug)]
 pub struct HandleValuePair {
     pub handle: u32,
     pub value: Value,
+}
+
+// By name, as of `List`.
+impl Drop for HandleValuePair {
+    fn drop(self) {
+        let HandleValuePair {
+            handle: _,
+            value: _,
+        } = self;
+    }
 }
 
 /// What a message says to its receiver: only what that federate is shown.

@@ -11,9 +11,16 @@ use std::alloc::{AllocError, Global};
 use std::marker::Model;
 
 /// A list of values. It is made from a `Vec` and gives it back.
-#[derive(Debug, Drop)]
+#[derive(Debug)]
 pub struct List<T> {
     items: Vec<T>,
+}
+
+// By name and not derived, so that it is proved here alone, and not by each crate that lets go of one.
+impl<T: Drop> Drop for List<T> {
+    fn drop(self) {
+        let List { items: _ } = self;
+    }
 }
 
 impl<T> Model for List<T> {
@@ -56,7 +63,8 @@ impl<T> List<T> {
     pub fn into_vec(self) -> Vec<T>
         ensures { result.items ≡ self }
     {
-        self.items
+        let List { items } = self;
+        items
     }
 
     /// The items.

@@ -10,9 +10,16 @@ use std::marker::Model;
 use std::sync::Arc;
 
 /// A message that stays as it is, and that all its receivers share: one more share takes no memory. Contracts see the message.
-#[derive(Debug, Drop)]
+#[derive(Debug)]
 pub struct SharedEvent {
     event: Arc<Event>,
+}
+
+// By name and not derived, so that it is proved here alone, and not by each crate that owns one.
+impl Drop for SharedEvent {
+    fn drop(self) {
+        let SharedEvent { event: _ } = self;
+    }
 }
 
 impl Model for SharedEvent {

@@ -13,9 +13,16 @@ use std::marker::Model;
 use std::sync::ArcSlice;
 
 /// A list of values that stays as it is. Its copies share the items, so a copy takes no memory.
-#[derive(Debug, Drop)]
+#[derive(Debug)]
 pub struct SharedList<T> {
     items: ArcSlice<T>,
+}
+
+// By name, as of `List`.
+impl<T: Drop> Drop for SharedList<T> {
+    fn drop(self) {
+        let SharedList { items: _ } = self;
+    }
 }
 
 impl<T> Model for SharedList<T> {

@@ -78,9 +78,16 @@ enum Bytes {
 
 /// A value of an attribute or a parameter: at most 1,024 bytes. Clones share what does not lie in the value itself, so that
 /// a clone takes no memory.
-#[derive(Debug, Drop)]
+#[derive(Debug)]
 pub struct Value {
     bytes: Bytes,
+}
+
+// By name, as of `List`.
+impl Drop for Value {
+    fn drop(self) {
+        let Value { bytes: _ } = self;
+    }
 }
 
 impl Model for Value {

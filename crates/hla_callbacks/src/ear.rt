@@ -9,9 +9,15 @@ use std::marker::Model;
 
 /// Holds the ambassador of one federate, and gives it callbacks as values. Contracts see what it has heard, whether it has
 /// room for one callback more, and its tag.
-#[derive(Drop)]
 pub struct Ear<B: FederateAmbassador> {
     ambassador: B,
+}
+
+// By name and not derived, so that it is proved here alone, and not by each crate that owns one.
+impl<B: FederateAmbassador> Drop for Ear<B> {
+    fn drop(self) {
+        let Ear { ambassador: _ } = self;
+    }
 }
 
 impl<B: FederateAmbassador> Model for Ear<B> {
@@ -42,7 +48,8 @@ impl<B: FederateAmbassador> Ear<B> {
         ensures room { B.room result ≡ self.room }
         ensures tag { B.tag result ≡ self.tag }
     {
-        self.ambassador
+        let Ear { ambassador } = self;
+        ambassador
     }
 
     /// Takes the room that the next callback needs; `OutOfMemory` where a growth was refused. Nothing is heard.

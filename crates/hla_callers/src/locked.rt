@@ -31,7 +31,6 @@ use std::sync::ledger::{Ledger, Share};
 
 /// The history with its executions, and the board that shows it to monitors: each record is kept there before the lock is
 /// given back. Contracts see both, and whether the records have gone out, as closing does.
-#[derive(Drop)]
 pub struct Locked<L: Ledger + Naming, B: FederateAmbassador, W: Publisher<L>, H: History<L, B>> {
     shared: H,
     board: Board<L, W>,
@@ -40,6 +39,20 @@ pub struct Locked<L: Ledger + Naming, B: FederateAmbassador, W: Publisher<L>, H:
     vain_steps: u64,
     /// The type of the ambassadors that the history keeps.
     ambassadors: PhantomData<B>,
+}
+
+// By name and not derived, so that it is proved here alone, and not by each crate that owns one.
+impl<L: Ledger + Naming, B: FederateAmbassador, W: Publisher<L>, H: History<L, B>> Drop
+    for Locked<L, B, W, H> {
+    fn drop(self) {
+        let Locked {
+            shared: _,
+            board: _,
+            ended: _,
+            vain_steps: _,
+            ambassadors: _,
+        } = self;
+    }
 }
 
 impl<L: Ledger + Naming, B: FederateAmbassador, W: Publisher<L>, H: History<L, B>> Model

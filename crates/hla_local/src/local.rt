@@ -22,7 +22,7 @@ use std::marker::Model;
 
 /// One federate's component: its roles and its time, what it knows of its peers, and what has arrived and waits to be picked
 /// up. Components know of each other only by messages; what a federate's own calls and ticks do to its component is here.
-#[derive(Debug, Drop)]
+#[derive(Debug)]
 pub struct Local {
     pub(crate) state: TimeState,
     pub(crate) peers: Peers,
@@ -31,6 +31,21 @@ pub struct Local {
     pub(crate) controls: VecDeque<Control>,
     last_announced: Ticks,
     epoch: u64,
+}
+
+// By name and not derived, so that it is proved here alone, and not by each crate that owns one.
+impl Drop for Local {
+    fn drop(self) {
+        let Local {
+            state: _,
+            peers: _,
+            received: _,
+            ordered: _,
+            controls: _,
+            last_announced: _,
+            epoch: _,
+        } = self;
+    }
 }
 
 impl Model for Local {

@@ -90,7 +90,7 @@ pub enum Outcome {
 }
 
 /// What a caller asked for.
-#[derive(PartialEq, Eq, Drop)]
+#[derive(PartialEq, Eq)]
 pub enum Act {
     /// Create Federation Execution, with what the FED file was read as; none where it was refused.
     Create { catalogue: Option<Catalogue> },
@@ -100,8 +100,19 @@ pub enum Act {
     Step(Step),
 }
 
+// By name and not derived, as of the choice and the record below, so that it is proved here alone, and not by each crate that owns one.
+impl Drop for Act {
+    fn drop(self) {
+        match self {
+            Act::Create { catalogue: _ } => {}
+            Act::Destroy => {}
+            Act::Step(_) => {}
+        }
+    }
+}
+
 /// What the definitions leave open and the step has fixed, so that a record determines the state after it.
-#[derive(PartialEq, Eq, Debug, Drop)]
+#[derive(PartialEq, Eq, Debug)]
 pub enum Choice {
     /// Nothing was left open.
     None,
@@ -111,8 +122,18 @@ pub enum Choice {
     Moved(List<EventHandle>),
 }
 
+impl Drop for Choice {
+    fn drop(self) {
+        match self {
+            Choice::None => {}
+            Choice::Entry(_) => {}
+            Choice::Moved(_) => {}
+        }
+    }
+}
+
 /// One act of the history.
-#[derive(PartialEq, Eq, Drop)]
+#[derive(PartialEq, Eq)]
 pub struct Record {
     /// The caller's number.
     pub actor: u32,
@@ -121,6 +142,18 @@ pub struct Record {
     pub act: Act,
     pub outcome: Outcome,
     pub choice: Choice,
+}
+
+impl Drop for Record {
+    fn drop(self) {
+        let Record {
+            actor: _,
+            execution: _,
+            act: _,
+            outcome: _,
+            choice: _,
+        } = self;
+    }
 }
 
 impl Clone for Step {

@@ -80,7 +80,6 @@ impl<J: Naming, R: Wait + Drop> Publisher<J> for WriteHandle<Told<J>, Told<J>, R
 
 /// What lies beside the history under its lock: the beginning of it that is shown, and the publisher to monitors. Contracts
 /// see both, and how many monitors were handed out.
-#[derive(Drop)]
 pub struct Board<J: Naming, W: Publisher<J>> {
     end: Length<J>,
     whole: bool,
@@ -89,6 +88,20 @@ pub struct Board<J: Naming, W: Publisher<J>> {
     /// Whether anything was published, so that the publisher has the memory for what follows.
     has_posted: bool,
     monitors: u32,
+}
+
+// By name and not derived, so that it is proved here alone, and not by each crate that owns one.
+impl<J: Naming, W: Publisher<J>> Drop for Board<J, W> {
+    fn drop(self) {
+        let Board {
+            end: _,
+            whole: _,
+            shown: _,
+            publisher: _,
+            has_posted: _,
+            monitors: _,
+        } = self;
+    }
 }
 
 impl<J: Naming, W: Publisher<J>> Model for Board<J, W> {

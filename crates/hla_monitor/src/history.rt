@@ -109,19 +109,34 @@ impl Opened {
 }
 
 /// The length of the history.
-#[derive(Drop)]
 pub struct Length<J: Naming> {
     word: Word<Record, u64, Law>,
     of: PhantomData<J>,
     ghost word_is: { word ≡ length_of J.book },
 }
 
+// By name and not derived, as of what is told below, so that it is proved here alone, and not by each crate that owns one.
+impl<J: Naming> Drop for Length<J> {
+    fn drop(self) {
+        let Length { word: _, of: _ } = self;
+    }
+}
+
 /// A beginning of the history, with its counts. Contracts see its records; what is there at run time are the counts alone.
-#[derive(Drop)]
 pub struct Told<J: Naming> {
     status: Status,
     seen: Seen<Record, u64, Law>,
     of: PhantomData<J>,
+}
+
+impl<J: Naming> Drop for Told<J> {
+    fn drop(self) {
+        let Told {
+            status: _,
+            seen: _,
+            of: _,
+        } = self;
+    }
 }
 
 impl<J: Naming> Model for Told<J> {

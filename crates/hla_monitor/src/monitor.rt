@@ -11,10 +11,19 @@ use std::marker::Model;
 
 /// Watches a running federation. It takes no lock, waits for nobody and needs no memory. Contracts see the records of the
 /// beginning of the history that it knows.
-#[derive(Drop)]
 pub struct Monitor<J: Naming> {
     handle: ReadHandle<Told<J>>,
     known: Told<J>,
+}
+
+// By name and not derived, so that it is proved here alone, and not by each crate that owns one.
+impl<J: Naming> Drop for Monitor<J> {
+    fn drop(self) {
+        let Monitor {
+            handle: _,
+            known: _,
+        } = self;
+    }
 }
 
 impl<J: Naming> Model for Monitor<J> {

@@ -12,9 +12,16 @@ use std::marker::Model;
 
 /// The events that a component gives in the order in which they arrived, the oldest first. Contracts see them, and for
 /// how many more there is room.
-#[derive(Debug, Drop)]
+#[derive(Debug)]
 pub struct RoQueue {
     events: VecDeque<Event>,
+}
+
+// By name and not derived, so that it is proved here alone, and not by each crate that owns one.
+impl Drop for RoQueue {
+    fn drop(self) {
+        let RoQueue { events: _ } = self;
+    }
 }
 
 impl Model for RoQueue {

@@ -16,11 +16,21 @@ use std::marker::Model;
 
 /// The events that a component has received in time-stamp order and not yet given, by stamp, at equal stamps by sender,
 /// then by serial. Contracts see the list of them in that order.
-#[derive(Debug, Drop)]
+#[derive(Debug)]
 pub struct TsoQueue {
     events: Ordered,
     /// The stamp of each event, by which an event is found where its name alone is known.
     names: Names,
+}
+
+// By name and not derived, so that it is proved here alone, and not by each crate that owns one.
+impl Drop for TsoQueue {
+    fn drop(self) {
+        let TsoQueue {
+            events: _,
+            names: _,
+        } = self;
+    }
 }
 
 impl Model for TsoQueue {

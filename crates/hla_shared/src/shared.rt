@@ -31,13 +31,25 @@ use std::sync::ledger::{Book, Ledger, Share};
 /// All executions by name, the ambassadors of their joined federates, and the history of the acts that led there; to be
 /// kept under one lock. Contracts see the history, how many records it may hold, and the executions with what each
 /// ambassador has heard and whose it is; `held_of` and `tags_held` lead from there to tables by name.
-#[derive(Drop)]
 pub struct Shared<L: Ledger, B: FederateAmbassador, F: Execution> {
     history: Vec<Record>,
     limit: usize,
     counts: Counts,
     executions: Vec<Hosted<B, F>>,
     book: Book<L>,
+}
+
+// By name and not derived, so that it is proved here alone, and not by each crate that owns one.
+impl<L: Ledger, B: FederateAmbassador, F: Execution> Drop for Shared<L, B, F> {
+    fn drop(self) {
+        let Shared {
+            history: _,
+            limit: _,
+            counts: _,
+            executions: _,
+            book: _,
+        } = self;
+    }
 }
 
 impl<L: Ledger, B: FederateAmbassador, F: Execution> Model for Shared<L, B, F> {

@@ -12,6 +12,7 @@ use crate::delivering::failed;
 use hla_base::{Fault, Plain, SharedList};
 use hla_execution::{Execution, Foreseen};
 use hla_machine::{Act, Outcome, Record, Step};
+use std::mem;
 
 /// How a step was done whose record was written as it was foreseen.
 #[derive(Drop)]
@@ -102,7 +103,8 @@ fn fail_last(records: &mut Vec<Record>)
     let Some(mut made) = records.pop() else {
         return;
     };
-    made.outcome = failed(made.outcome);
+    let answer = mem::replace(&mut made.outcome, Outcome::Refused(Fault::OutOfMemory));
+    made.outcome = failed(answer);
     records.push_reserved(made);
 }
 

@@ -16,7 +16,7 @@ use std::alloc::Global;
 use std::marker::Model;
 
 /// A synchronization point that is open.
-#[derive(Debug, Drop)]
+#[derive(Debug)]
 pub struct OpenPoint {
     /// Its label, of 1 to 64 bytes.
     pub label: SharedList<u8>,
@@ -24,6 +24,17 @@ pub struct OpenPoint {
     pub announced: FederateSet,
     /// Which of them have achieved it.
     pub achieved: FederateSet,
+}
+
+// By name and not derived, so that it is proved here alone, and not by each crate that owns one.
+impl Drop for OpenPoint {
+    fn drop(self) {
+        let OpenPoint {
+            label: _,
+            announced: _,
+            achieved: _,
+        } = self;
+    }
 }
 
 /// The synchronization points of an execution that are open, in order of opening. While none is, it is no larger than a
