@@ -90,7 +90,7 @@ pub enum Outcome {
 }
 
 /// What a caller asked for.
-#[derive(PartialEq, Eq)]
+#[derive(PartialEq, Eq, Drop)]
 pub enum Act {
     /// Create Federation Execution, with what the FED file was read as; none where it was refused.
     Create { catalogue: Option<Catalogue> },
@@ -98,17 +98,6 @@ pub enum Act {
     Destroy,
     /// A step of the execution.
     Step(Step),
-}
-
-// By name and not derived, as of the choice and the record below, so that it is proved here alone, and not by each crate that owns one.
-impl Drop for Act {
-    fn drop(self) {
-        match self {
-            Act::Create { catalogue: _ } => {}
-            Act::Destroy => {}
-            Act::Step(_) => {}
-        }
-    }
 }
 
 /// What the definitions leave open and the step has fixed, so that a record determines the state after it.
@@ -122,6 +111,7 @@ pub enum Choice {
     Moved(List<EventHandle>),
 }
 
+// By name and not derived, as of the record below, so that it is proved here alone, and not by each crate that owns one.
 impl Drop for Choice {
     fn drop(self) {
         match self {
