@@ -8,6 +8,8 @@ the two in each round, by turns: first that in step where FIRST is `step`, that 
 and the same for the same seed."""
 import sys
 
+from threads_script import numbers
+
 FED = """(FED
  (Federation Workload)
  (FEDversion v1.3)
@@ -26,15 +28,6 @@ REGULATING = ["publishInteraction WeaponFire", "subscribeInteraction WeaponFire"
 CONSTRAINED = ["constrain", "tick"]
 PUBLISHING = ["publishObject PhysicalEntity WorldLocation DeadReckoningState", "regulate 0 1", "tick"]
 SUBSCRIBING = ["subscribeObject PhysicalEntity WorldLocation DeadReckoningState", "constrain", "tick"]
-
-
-def numbers(seed, place):
-    """Numbers below 2^31 without order: a linear congruential generator modulo 2^64, behind its first four."""
-    state = seed << 32 | place
-    for made in range(sys.maxsize):
-        state = (state * 6364136223846793005 + 1442695040888963407) % 2**64
-        if made >= 4:
-            yield state >> 33
 
 
 class Script:
