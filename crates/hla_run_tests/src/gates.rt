@@ -1,19 +1,12 @@
 //! Federates run on threads of their own: a line of one waits for a line of the other, and the other way round.
 
-ghost use Rattle.std.specs.Prelude.{◌≡◌};
-ghost use Rattle.hla_base.specs.Limits.{ledger_parts};
-
-use crate::texts::run;
-use hla_base::{FederateNo, LEDGER_PARTS};
-use hla_monitor::{Naming, Opened};
+use crate::texts::{check, run};
+use hla_base::FederateNo;
 use hla_run::Gate;
 use std::alloc::Global;
-use std::marker::Brand;
 use std::process::Abort;
 use std::sync::Wait;
 use std::sync::atomic::{AtomicBool, Ordering};
-use std::sync::ledger::{Blank, Ledger};
-use std::test::Fail;
 use std::thread;
 use std::thread::Threads;
 
@@ -99,43 +92,26 @@ impl Gate for Both {
 }
 
 /// Runs the script with one line held until another is done.
-fn held<L: Ledger + Naming + Send + Sync, R: Threads + Wait + Abort + Sync>(
-    rt: &R,
-    alloc: Global,
-    blank: Blank,
-    opened: Opened,
-    gate: &Holding,
-) -> Result<(), Fail>
-    requires name { blank.name ≡ L.name }
-    requires parts { blank.parts ≡ L.parts }
-    requires all { blank.parts ≡ ledger_parts }
-    requires book { opened.seen.book ≡ L.book }
-{
-    let shown = run::<L, Holding, R>(rt, alloc, blank, opened, SCRIPT, gate)?;
-    assert!(rt; !gate.has_let_go.load(Ordering::SeqCst));
-    assert!(rt; shown.text.as_slice() == TEXT);
-    assert_eq!(rt; shown.closed.records().len(), 5);
-    Ok(())
+fn check_held<R: Threads + Wait + Abort + Sync>(rt: &R, alloc: Global, gate: &Holding) {
+    let shown = run(rt, alloc, SCRIPT, gate);
+    let is_text = shown.text.as_slice() == TEXT;
+    let records = shown.ran.closed.records().len();
+    drop(shown);
+    check(
+        rt,
+        !gate.has_let_go.load(Ordering::SeqCst),
+        "the line was held",
+    );
+    check(rt, is_text, "what it writes");
+    check(rt, records == 5, "five records");
 }
 
 #[test]
-fn first_waits_for_the_second(rt: HostRuntime) -> Result<(), Fail> {
-    held::<Brand, HostRuntime>(
-        &rt,
-        rt.alloc(),
-        Blank::new(LEDGER_PARTS),
-        Opened::new(),
-        &Holding::new(4, 5),
-    )
+fn first_waits_for_the_second(rt: HostRuntime) {
+    check_held(&rt, rt.alloc(), &Holding::new(4, 5));
 }
 
 #[test]
-fn second_waits_for_the_first(rt: HostRuntime) -> Result<(), Fail> {
-    held::<Brand, HostRuntime>(
-        &rt,
-        rt.alloc(),
-        Blank::new(LEDGER_PARTS),
-        Opened::new(),
-        &Holding::new(5, 4),
-    )
+fn second_waits_for_the_first(rt: HostRuntime) {
+    check_held(&rt, rt.alloc(), &Holding::new(5, 4));
 }

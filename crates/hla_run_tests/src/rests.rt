@@ -1,20 +1,13 @@
 //! Threads that rest go on, however often they do so, and whatever a gate holds meanwhile.
 
-ghost use Rattle.std.specs.Prelude.{◌≡◌};
-ghost use Rattle.hla_base.specs.Limits.{ledger_parts};
-
-use crate::scripts::in_lockstep;
-use crate::texts::run;
-use hla_base::{FederateNo, LEDGER_PARTS};
-use hla_monitor::{Naming, Opened};
+use crate::scripts::check_lockstep;
+use crate::texts::{check, run};
+use hla_base::FederateNo;
 use hla_run::Gate;
 use std::alloc::Global;
-use std::marker::Brand;
 use std::process::Abort;
 use std::sync::Wait;
 use std::sync::atomic::{AtomicBool, Ordering};
-use std::sync::ledger::{Blank, Ledger};
-use std::test::Fail;
 use std::thread;
 use std::thread::Threads;
 
@@ -74,51 +67,34 @@ impl Gate for HeldBehind {
 }
 
 /// A line that ticks is done in the end, with nothing, though another thread is held behind its own line until then.
-fn ends_beside_one_held<L: Ledger + Naming + Send + Sync, R: Threads + Wait + Abort + Sync>(
-    rt: &R,
-    alloc: Global,
-    blank: Blank,
-    opened: Opened,
-) -> Result<(), Fail>
-    requires name { blank.name ≡ L.name }
-    requires parts { blank.parts ≡ L.parts }
-    requires all { blank.parts ≡ ledger_parts }
-    requires book { opened.seen.book ≡ L.book }
-{
+fn check_beside_one_held<R: Threads + Wait + Abort + Sync>(rt: &R, alloc: Global) {
     let gate = HeldBehind {
         held: 4,
         awaited: 5,
         is_done: AtomicBool::new(false),
         has_let_go: AtomicBool::new(false),
     };
-    let shown = run::<L, HeldBehind, R>(rt, alloc, blank, opened, TICKING, &gate)?;
-    assert!(rt; !gate.has_let_go.load(Ordering::SeqCst));
-    assert!(rt; shown.text.as_slice() == TICKING_TEXT);
-    Ok(())
+    let shown = run(rt, alloc, TICKING, &gate);
+    let is_text = shown.text.as_slice() == TICKING_TEXT;
+    drop(shown);
+    check(
+        rt,
+        !gate.has_let_go.load(Ordering::SeqCst),
+        "the thread was held",
+    );
+    check(rt, is_text, "what it writes");
 }
 
 #[test]
-fn a_tick_ends_beside_one_held_behind_its_line(rt: HostRuntime) -> Result<(), Fail> {
+fn a_tick_ends_beside_one_held_behind_its_line(rt: HostRuntime) {
     for _ in 0..RUNS {
-        ends_beside_one_held::<Brand, HostRuntime>(
-            &rt,
-            rt.alloc(),
-            Blank::new(LEDGER_PARTS),
-            Opened::new(),
-        )?;
+        check_beside_one_held(&rt, rt.alloc());
     }
-    Ok(())
 }
 
 #[test]
-fn rests_end_in_each_of_many_runs(rt: HostRuntime) -> Result<(), Fail> {
+fn rests_end_in_each_of_many_runs(rt: HostRuntime) {
     for _ in 0..LOCKSTEPS {
-        in_lockstep::<Brand, HostRuntime>(
-            &rt,
-            rt.alloc(),
-            Blank::new(LEDGER_PARTS),
-            Opened::new(),
-        )?;
+        check_lockstep(&rt, rt.alloc());
     }
-    Ok(())
 }

@@ -1,26 +1,14 @@
 //! Scripts that run on threads, and in order on one.
 
-ghost use Rattle.std.specs.Prelude.{◌≡◌};
-ghost use Rattle.hla_base.specs.Limits.{ledger_parts};
-
 use crate::gates::{Both, Holding};
-use crate::texts::{FED, Shown, run, run_on_one_thread};
-use hla_base::LEDGER_PARTS;
-use hla_callbacks::{Callback, Delivery, Recorder};
+use crate::texts::{FED, check, in_order, on_threads, run};
+use hla_callbacks::Recorder;
 use hla_checker::check_run;
-use hla_federation::Federation;
-use hla_in_order::run_in_order;
-use hla_machine::{Answer, Outcome, Record};
-use hla_monitor::{Naming, Opened};
-use hla_run::{OpenGate, RunFault, recorders, run_scripts};
-use hla_shared::Shared;
+use hla_run::{OpenGate, RunFault, recorders};
 use hla_transcript::Watched;
 use std::alloc::Global;
-use std::marker::Brand;
 use std::process::Abort;
 use std::sync::Wait;
-use std::sync::ledger::{Blank, Ledger};
-use std::test::Fail;
 use std::thread::Threads;
 
 /// Two federates, one behind the other in time: B is told what A sends, with its stamp. B becomes constrained once A regulates, and
@@ -99,156 +87,91 @@ const ORDERED_TEXT: &[u8] = b"1 ok
 ";
 
 /// The script on threads: what it writes, and a run of the central machine.
-pub fn in_lockstep<L: Ledger + Naming + Send + Sync, R: Threads + Wait + Abort + Sync>(
-    rt: &R,
-    alloc: Global,
-    blank: Blank,
-    opened: Opened,
-) -> Result<(), Fail>
-    requires name { blank.name ≡ L.name }
-    requires parts { blank.parts ≡ L.parts }
-    requires all { blank.parts ≡ ledger_parts }
-    requires book { opened.seen.book ≡ L.book }
-{
+pub fn check_lockstep<R: Threads + Wait + Abort + Sync>(rt: &R, alloc: Global) {
     let gate = Both {
         first: Holding::new(8, 7),
         second: Holding::new(12, 9),
     };
-    let shown = run::<L, Both, R>(rt, alloc, blank, opened, LOCKSTEP, &gate)?;
-    assert!(rt; shown.text.as_slice() == LOCKSTEP_TEXT);
-    assert!(rt; check_run(alloc, shown.closed.records()) == Ok(()));
-    let Some(seen) = shown.seen else {
-        panic!(rt; "nobody watched");
-    };
-    assert_eq!(rt; seen.steps, shown.closed.records().len() as u64);
-    assert_eq!(rt; seen.grants, 2);
-    assert_eq!(rt; seen.executions, 0);
-    assert_eq!(rt; seen.joined, 0);
-    Ok(())
+    let shown = run(rt, alloc, LOCKSTEP, &gate);
+    let is_text = shown.text.as_slice() == LOCKSTEP_TEXT;
+    let is_run = check_run(alloc, shown.ran.closed.records()) == Ok(());
+    let records = shown.ran.closed.records().len() as u64;
+    let seen = shown.ran.seen;
+    drop(shown);
+    check(rt, is_text, "what it writes");
+    check(rt, is_run, "a run of the central machine");
+    let seen = seen.expect(rt, "a monitor that watched");
+    let counts = [seen.steps, seen.grants, seen.executions, seen.joined];
+    check(rt, counts == [records, 2, 0, 0], "what a monitor read");
 }
 
 #[test]
-fn lockstep_on_threads_writes_its_text(rt: HostRuntime) -> Result<(), Fail> {
-    in_lockstep::<Brand, HostRuntime>(&rt, rt.alloc(), Blank::new(LEDGER_PARTS), Opened::new())
+fn lockstep_on_threads_writes_its_text(rt: HostRuntime) {
+    check_lockstep(&rt, rt.alloc());
 }
 
 /// The script in order on one thread, with its carries and announcements: nothing lies behind them for the ticks to fetch.
-fn in_order<L: Ledger + Naming, R: Wait + Abort>(
-    rt: &R,
-    alloc: Global,
-    blank: Blank,
-    opened: Opened,
-) -> Result<(), Fail>
-    requires name { blank.name ≡ L.name }
-    requires parts { blank.parts ≡ L.parts }
-    requires all { blank.parts ≡ ledger_parts }
-    requires book { opened.seen.book ≡ L.book }
-{
-    let shown = run_on_one_thread::<L, R>(rt, alloc, blank, opened, ORDERED)?;
-    assert!(rt; shown.text.as_slice() == ORDERED_TEXT);
-    assert!(rt; check_run(alloc, shown.closed.records()) == Ok(()));
-    assert_eq!(rt; shown.closed.records().len(), 8);
-    Ok(())
-}
-
 #[test]
-fn a_script_in_order_writes_its_text(rt: HostRuntime) -> Result<(), Fail> {
-    in_order::<Brand, HostRuntime>(&rt, rt.alloc(), Blank::new(LEDGER_PARTS), Opened::new())
+fn a_script_in_order_writes_its_text(rt: HostRuntime) {
+    let own = recorders(rt.alloc(), ORDERED).expect(&rt, "ambassadors");
+    let mut out = Watched::new(Vec::new(rt.alloc()));
+    let ran = in_order(&rt, rt.alloc(), ORDERED, own, &mut out);
+    let closed = ran.ok().expect(&rt, "a run that is not stopped");
+    let is_run = check_run(rt.alloc(), closed.records()) == Ok(());
+    let records = closed.records().len();
+    drop(closed);
+    let is_text = out.into_inner().as_slice() == ORDERED_TEXT;
+    check(&rt, is_text, "what it writes");
+    check(&rt, is_run, "a run of the central machine");
+    check(&rt, records == 8, "eight records");
 }
 
 /// What a run of texts at fault answers, or one without ambassadors, with nothing written.
-fn refused<L: Ledger + Naming + Send + Sync, R: Threads + Wait + Abort + Sync>(
+fn refused<R: Threads + Wait + Abort + Sync>(
     rt: &R,
     alloc: Global,
-    blank: Blank,
-    opened: Opened,
     fed: &[u8],
     script: &[u8],
-) -> Result<RunFault, Fail>
-    requires name { blank.name ≡ L.name }
-    requires parts { blank.parts ≡ L.parts }
-    requires all { blank.parts ≡ ledger_parts }
-    requires book { opened.seen.book ≡ L.book }
-{
+) -> RunFault {
     let mut out = Watched::new(Vec::new(alloc));
     let none: Vec<Recorder> = Vec::new(alloc);
-    let ran = run_scripts::<L, Recorder, Shared<L, Recorder, Federation>, OpenGate, R, Vec<u8>>(
-        rt, alloc, blank, opened, fed, script, none, &OpenGate, false, &mut out,
+    let ran = on_threads(rt, alloc, fed, script, none, &OpenGate, false, &mut out);
+    check(rt, out.into_inner().is_empty(), "nothing is written");
+    ran.err().expect(rt, "a run that is refused")
+}
+
+#[test]
+fn a_fed_file_at_fault_writes_nothing(rt: HostRuntime) {
+    let fault = refused(&rt, rt.alloc(), b"(FED", b"leave");
+    check(
+        &rt,
+        matches!(fault, RunFault::Fed(_)),
+        "the FED file is at fault",
     );
-    let Err(fault) = ran else {
-        panic!(rt; "not refused");
-    };
-    assert!(rt; out.into_inner().is_empty());
-    Ok(fault)
 }
 
 #[test]
-fn a_fed_file_at_fault_writes_nothing(rt: HostRuntime) -> Result<(), Fail> {
-    let fault = refused::<Brand, HostRuntime>(
-        &rt,
-        rt.alloc(),
-        Blank::new(LEDGER_PARTS),
-        Opened::new(),
-        b"(FED",
-        b"leave",
-    )?;
-    assert!(rt; matches!(fault, RunFault::Fed(_)));
-    Ok(())
+fn a_script_at_fault_writes_nothing(rt: HostRuntime) {
+    let fault = refused(&rt, rt.alloc(), FED, b"create\nleave\n");
+    let is_second = matches!(fault, RunFault::Script(script) if script.line == 2);
+    check(&rt, is_second, "the second line is at fault");
 }
 
 #[test]
-fn a_script_at_fault_writes_nothing(rt: HostRuntime) -> Result<(), Fail> {
-    let fault = refused::<Brand, HostRuntime>(
-        &rt,
-        rt.alloc(),
-        Blank::new(LEDGER_PARTS),
-        Opened::new(),
-        FED,
-        b"create\nleave\n",
-    )?;
-    assert!(rt; matches!(fault, RunFault::Script(script) if script.line == 2));
-    Ok(())
-}
-
-#[test]
-fn too_few_ambassadors(rt: HostRuntime) -> Result<(), Fail> {
-    let fault = refused::<Brand, HostRuntime>(
-        &rt,
-        rt.alloc(),
-        Blank::new(LEDGER_PARTS),
-        Opened::new(),
-        FED,
-        LOCKSTEP,
-    )?;
-    assert!(rt; matches!(fault, RunFault::Ambassadors));
-    Ok(())
+fn too_few_ambassadors(rt: HostRuntime) {
+    let fault = refused(&rt, rt.alloc(), FED, LOCKSTEP);
+    let is_right = matches!(fault, RunFault::Ambassadors);
+    check(&rt, is_right, "too few ambassadors");
 }
 
 /// The same of a run in order, with one ambassador for the two lines that join.
-fn too_few_in_order<L: Ledger + Naming, R: Wait + Abort>(
-    rt: &R,
-    alloc: Global,
-    blank: Blank,
-    opened: Opened,
-) -> Result<(), Fail>
-    requires name { blank.name ≡ L.name }
-    requires parts { blank.parts ≡ L.parts }
-    requires all { blank.parts ≡ ledger_parts }
-    requires book { opened.seen.book ≡ L.book }
-{
-    let Ok(one) = recorders(alloc, b"join A") else {
-        panic!(rt; "no memory");
-    };
-    let mut out = Watched::new(Vec::new(alloc));
-    let ran = run_in_order::<L, Recorder, Shared<L, Recorder, Federation>, R, Vec<u8>>(
-        rt, alloc, blank, opened, FED, ORDERED, one, &mut out,
-    );
-    assert!(rt; matches!(ran, Err(RunFault::Ambassadors)));
-    assert!(rt; out.into_inner().is_empty());
-    Ok(())
-}
-
 #[test]
-fn too_few_ambassadors_in_order(rt: HostRuntime) -> Result<(), Fail> {
-    too_few_in_order::<Brand, HostRuntime>(&rt, rt.alloc(), Blank::new(LEDGER_PARTS), Opened::new())
+fn too_few_ambassadors_in_order(rt: HostRuntime) {
+    let one = recorders(rt.alloc(), b"join A").expect(&rt, "an ambassador");
+    let mut out = Watched::new(Vec::new(rt.alloc()));
+    let ran = in_order(&rt, rt.alloc(), ORDERED, one, &mut out);
+    let is_right = matches!(ran, Err(RunFault::Ambassadors));
+    drop(ran);
+    check(&rt, is_right, "too few ambassadors");
+    check(&rt, out.into_inner().is_empty(), "nothing is written");
 }
