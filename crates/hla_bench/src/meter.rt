@@ -230,6 +230,7 @@ impl Meter {
 
     /// What a federate's next tick brings, if it brings anything. An error is the fault of the step where it is refused, or
     /// `OutOfMemory` where a growth was refused.
+    #[inline(always)]
     pub fn tick(&mut self, federate: FederateNo) -> Result<Option<Brought>, Fault> {
         self.counts.steps = self.counts.steps.wrapping_add(1);
         if self.history.is_some() {
@@ -261,6 +262,7 @@ impl Meter {
     }
 
     /// Carries a wire until it is empty.
+    #[inline(always)]
     fn carry(&mut self, from: FederateNo, to: FederateNo) -> Result<(), Fault> {
         for _ in 0..u64::MAX {
             self.counts.steps = self.counts.steps.wrapping_add(1);
@@ -287,6 +289,7 @@ impl Meter {
 
     /// Ticks a federate until it is granted a time, or picks up nothing. An error is the fault of the first step that is
     /// refused, or `OutOfMemory` where a growth was refused. Those before it stay done.
+    #[inline(always)]
     pub fn visit(&mut self, federate: FederateNo) -> Result<Visit, Fault> {
         let mut visit = Visit {
             received: 0,

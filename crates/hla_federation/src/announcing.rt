@@ -87,7 +87,6 @@ impl Parts {
     /// A federate announces what it may promise, if that is more than it announced last. Refused, it changes nothing:
     /// `FederateNotExecutionMember` where the federate is not joined; else `OutOfMemory` where there is something to
     /// announce and a growth was refused.
-    #[inline(always)]
     pub fn announce(&mut self, federate: FederateNo) -> Result<Option<Ticks>, Fault>
         requires { IsSound self.old }
         ensures whole { IsWhole self.new }

@@ -32,7 +32,6 @@ impl Parts {
     /// The first message on a wire comes to its receiver. Refused, it changes nothing: `FederateNotExecutionMember` where
     /// the receiver is not joined, the sender never was, or both are one; else `OutOfMemory` where a growth was refused,
     /// which happens to no empty wire and no null message.
-    #[inline(always)]
     pub fn carry(&mut self, from: FederateNo, to: FederateNo) -> Result<Carried, Fault>
         requires { IsSound self.old }
         ensures whole { IsWhole self.new }
@@ -49,7 +48,6 @@ impl Parts {
     /// A federate ticks. Refused, it changes nothing: `FederateNotExecutionMember` where it is not joined; else
     /// `OutOfMemory` where it is to be constrained from now on and room for what moves was refused.
     #[tactic(auto, using(crate::proofs::Steps::Declaring::tick_refused))]
-    #[inline(always)]
     pub fn tick(&mut self, federate: FederateNo) -> Result<Option<Callback>, Fault>
         requires { IsSound self.old }
         ensures whole { IsWhole self.new }

@@ -67,6 +67,7 @@ fn is_subscribed(subscribed: &[AttributeNo], attribute: AttributeNo) -> bool
 }
 
 /// The place of the first of these values whose attribute is not subscribed, if there is one.
+#[inline(always)]
 fn first_hidden(subscribed: &[AttributeNo], values: &[HandleValuePair]) -> Option<usize>
     ensures { result
         ≡ position (λ (v : HandleValuePair). not
@@ -214,6 +215,7 @@ impl Parts {
     /// or of the part that was kept for those who subscribe the same, where there is one. So receivers of two kinds, those
     /// who subscribe all and those who subscribe one part, cost two events. `OutOfMemory` where a growth was refused;
     /// nothing is said of `made` then.
+    #[inline(always)]
     pub(crate) fn shared_reflection<'a>(
         &'a self,
         made: &mut Option<Made<'a>>,

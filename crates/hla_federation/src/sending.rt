@@ -66,6 +66,7 @@ impl Parts {
     }
 
     /// Whether a class has all the parameters of these values.
+    #[inline(always)]
     fn shows_parameters(&self, class: ClassNo, values: &[HandleValuePair]) -> bool
         ensures { result
             ≡ list_all (λ (v : HandleValuePair). has_parameter self.now.catalogue class v.handle)
@@ -78,6 +79,7 @@ impl Parts {
 
     /// The values of the parameters that a class has, shared: those that are given, where it has all of them. `OutOfMemory`
     /// where a growth was refused.
+    #[inline(always)]
     fn parameters_for(
         &self,
         class: ClassNo,
@@ -98,6 +100,7 @@ impl Parts {
 
     /// The interaction as those receive it who do so at a class: with the parameters that the class has. `OutOfMemory`
     /// where a growth was refused.
+    #[inline(always)]
     fn interaction_at(
         &self,
         heading: Heading,
@@ -139,6 +142,7 @@ impl Parts {
     }
 
     /// Whether all these values are of attributes whose updates have this order, of this object and now.
+    #[inline(always)]
     fn are_of_order(&self, object: ObjectNo, order: Order, values: &[HandleValuePair]) -> bool
         ensures { result ≡ list_all (λ (v : HandleValuePair). is_of_order order
             (order_of_attribute (state_of self.now).directory object v.handle)) values.now }
@@ -247,6 +251,7 @@ impl Parts {
 
     /// Adds an update for each federate that receives it, with the attributes that it is shown, and answers who they are.
     /// `OutOfMemory` where a growth was refused; nothing is said of the outbox then.
+    #[inline(always)]
     fn address_update(
         &self,
         outbox: &mut Outbox,
@@ -322,6 +327,7 @@ impl Parts {
 
     /// Adds a part of an update, and answers who receives it; none where the part has no values, and so makes no message.
     /// `OutOfMemory` where a growth was refused; nothing is said of the outbox then.
+    #[inline(always)]
     fn address_part(
         &self,
         outbox: &mut Outbox,

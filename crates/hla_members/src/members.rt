@@ -137,6 +137,7 @@ impl Members {
     }
 
     /// So many more messages were sent by a federate.
+    #[inline(always)]
     pub fn count_messages(&mut self, federate: FederateNo, count: u64)
         requires some { 0 < federate }
         requires within { federate < (members_of self.old.shown).next_federate }
@@ -153,6 +154,7 @@ impl Members {
 
     /// Of a message that a federate may retract, if there is one, is noted what is needed for that; `OutOfMemory`, and all
     /// as it was, where a growth was refused.
+    #[inline(always)]
     fn note(&mut self, federate: FederateNo, note: Option<Note>) -> Result<(), Fault>
         requires some { 0 < federate }
         requires within { federate < (members_of self.old.shown).next_federate }
@@ -254,6 +256,7 @@ impl Members {
     }
 
     /// Makes room for this many more messages on a wire; `OutOfMemory` where that was refused.
+    #[inline(always)]
     fn reserve(&mut self, from: FederateNo, to: FederateNo, count: usize) -> Result<(), Fault>
         requires some_from { 0 < from }
         requires within_from { from ≤ max_joins }
@@ -289,6 +292,7 @@ impl Members {
     }
 
     /// Puts a message on its wire, if there is a federate at the other end, that is one below `end`. It takes no memory.
+    #[inline(always)]
     fn post(&mut self, along: Direction, addressed: Addressed, end: FederateNo)
         requires last { end ≡ (members_of self.old.shown).next_federate }
         requires few { end ≤ max_joins + 1 }
@@ -311,6 +315,7 @@ impl Members {
 
     /// Makes room for all messages of an outbox on their wires; `OutOfMemory` where that was refused. Nothing but room
     /// changes, either way.
+    #[inline(always)]
     pub fn reserve_all(&mut self, along: Direction, outbox: &Outbox) -> Result<(), Fault>
         requires { IsEnd along (members_of self.old.shown).next_federate }
         ensures same { self.new.shown ≡ self.old.shown }
@@ -329,6 +334,7 @@ impl Members {
     }
 
     /// Puts all messages of an outbox on their wires. It takes no memory.
+    #[inline(always)]
     pub fn post_all(&mut self, along: Direction, outbox: Outbox)
         requires end { IsEnd along (members_of self.old.shown).next_federate }
         requires room { HasRoom along (item [] outbox) 1 (members_of self.old.shown).next_federate
@@ -346,6 +352,7 @@ impl Members {
 
     /// Puts all messages of an outbox on the wires from a federate, counts them, and notes the one that may be retracted, if
     /// there is one; `OutOfMemory`, and all as it was, where a growth was refused.
+    #[inline(always)]
     pub fn send_all(
         &mut self,
         federate: FederateNo,

@@ -64,6 +64,7 @@ impl Block {
     }
 
     /// Whether no event comes after this key, so that the event with it goes behind all.
+    #[inline(always)]
     fn is_behind_all(&self, key: EventKey) -> bool
         requires { IsInOrder self.now }
         ensures { result ≡ true → AllByRecursion (λ x. is_key_before key x ≡ false) self.now }
@@ -76,6 +77,7 @@ impl Block {
 
     /// Puts an event behind all, of which none comes after it; the event comes back, and the block is as it was, where a growth
     /// was refused.
+    #[inline(always)]
     fn append(&mut self, event: Event) -> Result<(), Event>
         requires { AllByRecursion (λ x. is_key_before (key_of event) x ≡ false) self.old }
         ensures ok { OnOk result (self.new ≡ insert_event event self.old) }
@@ -108,6 +110,7 @@ impl Block {
     }
 
     /// Takes the first event, if there is one.
+    #[inline(always)]
     pub fn take_first(&mut self) -> Option<Event>
         ensures first { result ≡ slice_get self.old 0 }
         ensures rest { self.new ≡ drop 1 self.old }

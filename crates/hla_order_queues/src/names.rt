@@ -57,6 +57,7 @@ impl Names {
     /// Puts an event's stamp at its name, where nothing is; false where memory for it was refused, and then all stays as it
     /// is. Where the serial is greater than those of the sender's events before, it costs the same however many there are,
     /// but for the growth of the room, for which each event pays a share; else it looks at a logarithm of them.
+    #[inline(always)]
     pub fn put(&mut self, key: EventKey) -> bool
         requires { stamp_at self.old (record { sender = key.sender; serial = key.serial }) ≡ None }
         ensures put { OnTrue result (SetsAt (stamp_at self.old) (stamp_at self.new)
@@ -89,6 +90,7 @@ impl Names {
     /// Takes the stamp of the event with this key, before which none comes, and which is there. It costs the same however many
     /// there are, where all events are in lists; else it looks at a logarithm of the others. What `take` says of sweeping
     /// and of room holds here, too.
+    #[inline(always)]
     pub fn pass(&mut self, key: EventKey)
         requires least { (n : EventName) (t : ℕ) → stamp_at self.old n ≡ Some t
             → is_less (key_with n t) key ≡ false }
@@ -120,6 +122,7 @@ fn noted(rising: &[Rising], name: EventName) -> Option<Ticks>
 
 /// Makes the list as long as a sender's number needs, if it is one that a federate has; false where memory for it was
 /// refused.
+#[inline(always)]
 fn reach(rising: &mut Vec<Rising>, sender: FederateNo, alloc: Global) -> bool
     ensures same { (n : EventName) → noted_at rising.new.items n ≡ noted_at rising.old.items n }
     ensures reached { OnTrue result (sender ≤ MAX_JOINS → sender < length rising.new.items) }
@@ -137,6 +140,7 @@ fn reach(rising: &mut Vec<Rising>, sender: FederateNo, alloc: Global) -> bool
 }
 
 /// Notes an event behind its sender's others, if that is its place.
+#[inline(always)]
 fn push(rising: &mut Vec<Rising>, key: EventKey) -> Pushed
     ensures { IsPushedAt result key rising.old.items rising.new.items }
 {
@@ -167,6 +171,7 @@ fn take_noted(rising: &mut Vec<Rising>, name: EventName) -> Option<Ticks>
 }
 
 /// The event with this key goes, before which none comes.
+#[inline(always)]
 fn pass_noted(rising: &mut Vec<Rising>, key: EventKey)
     requires { IsLeastAt key rising.old.items }
     ensures { SetsAt (noted_at rising.old.items) (noted_at rising.new.items) (name_of_key key)
@@ -178,6 +183,7 @@ fn pass_noted(rising: &mut Vec<Rising>, key: EventKey)
 }
 
 /// Takes the stamp at a name among the others.
+#[inline(always)]
 fn take_other(others: &mut BTreeMap<EventName, Ticks>, name: EventName) -> Option<Ticks>
     ensures found { result ≡ stamp_at others.old.entries name }
     ensures rest { SetsAt (stamp_at others.old.entries) (stamp_at others.new.entries) name None }

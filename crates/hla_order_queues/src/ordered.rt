@@ -75,6 +75,7 @@ impl Ordered {
 
     /// Puts an event at its place, where no two have one name; the event comes back, and all is as it was, where a growth was
     /// refused. It looks at a logarithm of the blocks, and moves fewer events than lie in one, but for one that is split.
+    #[inline(always)]
     pub fn insert(&mut self, event: Event) -> Result<(), Event>
         requires { IsUnique self.old }
         ensures ok { OnOk result (self.new ≡ insert_event event self.old) }
@@ -94,6 +95,7 @@ impl Ordered {
     }
 
     /// Takes the first event, if there is one. It takes no memory.
+    #[inline(always)]
     pub fn take_first(&mut self) -> Option<Event>
         ensures ordered { IsInOrder self.old }
         ensures first { result ≡ slice_get self.old 0 }
@@ -163,6 +165,7 @@ impl Ordered {
 
 /// Puts an event at its place, behind all of the first block only where no later separator is at most its key; the event comes
 /// back, and all is as it was, where a growth was refused.
+#[inline(always)]
 fn put(first: &mut Block, later: &mut Blocks, event: Event) -> Result<(), Event>
     requires ordered { IsInOrder (first.old ++ events_of later.old) }
     requires unique { IsUnique (first.old ++ events_of later.old) }
@@ -189,6 +192,7 @@ fn put(first: &mut Block, later: &mut Blocks, event: Event) -> Result<(), Event>
 
 /// Whether the first block has room without much to move, should the event with this key belong there: a full one is split.
 /// The events stay the same.
+#[inline(always)]
 fn has_room(first: &mut Block, later: &mut Blocks, key: EventKey) -> bool
     requires ordered { IsInOrder (first.old ++ events_of later.old) }
     requires unique { IsUnique (first.old ++ events_of later.old) }

@@ -82,6 +82,7 @@ impl Rising {
 
     /// Notes a stamp at a serial, where it is greater than all others, and the event behind all that were passed. It costs the
     /// same however many there are, but for the growth of the room. Where it is not noted, nothing changes.
+    #[inline(always)]
     pub fn push(&mut self, serial: Serial, stamp: Ticks) -> Pushed
         ensures { IsPushed result serial stamp self.old self.new }
     {
@@ -126,6 +127,7 @@ impl Rising {
     /// The event with this serial and stamp goes, before which none comes. Its note is looked for nowhere but in front: where it
     /// lies elsewhere it stays, and says nothing any more. It costs the same however many there are, but for what `take` says
     /// of sweeping and of room.
+    #[inline(always)]
     pub fn pass(&mut self, serial: Serial, stamp: Ticks)
         requires { IsLeastNoted serial stamp self.old }
         ensures { (m : ℕ) → noted m self.new ≡ cond (eqb serial m) None (noted m self.old) }
@@ -146,6 +148,7 @@ impl Rising {
 }
 
 /// Whether an event of the sender was passed.
+#[inline(always)]
 fn is_passed(passed: Option<Passed>, serial: Serial, stamp: Ticks) -> bool
     ensures { result ≡ is_passed passed serial stamp }
 {
@@ -183,6 +186,7 @@ fn passed_to(passed: Option<Passed>, serial: Serial, stamp: Ticks) -> Option<Pas
 }
 
 /// Whether all serials that are noted are less than this one.
+#[inline(always)]
 fn is_below(notes: &VecDeque<StampNote>, serial: Serial) -> bool
     requires { AreRisingNotes notes.now.items }
     ensures { MatchBool result (AreLess serial notes.now.items)
@@ -247,6 +251,7 @@ fn take_from(notes: &mut VecDeque<StampNote>, gone: &mut usize, serial: Serial) 
 }
 
 /// Whether the first note has this serial.
+#[inline(always)]
 fn is_first(notes: &VecDeque<StampNote>, serial: Serial) -> bool
     ensures { result ≡ is_first_note serial notes.now.items }
 {
@@ -257,6 +262,7 @@ fn is_first(notes: &VecDeque<StampNote>, serial: Serial) -> bool
 }
 
 /// Takes the first note, which has this serial, and gives its stamp.
+#[inline(always)]
 fn take_first(notes: &mut VecDeque<StampNote>, serial: Serial) -> Option<Ticks>
     requires rising { AreRisingNotes notes.old.items }
     requires first { is_first_note serial notes.old.items ≡ true }
@@ -285,6 +291,7 @@ fn mark(notes: &mut VecDeque<StampNote>, serial: Serial) -> Option<Ticks>
 }
 
 /// Takes notes of events that are gone out, if there are any, and gives room back.
+#[inline(always)]
 fn tidy(
     notes: &mut VecDeque<StampNote>,
     gone: &mut usize,
@@ -339,6 +346,7 @@ fn is_first_gone(notes: &VecDeque<StampNote>, passed: Option<Passed>) -> bool
 
 /// Gives room back where that is due; if it is refused, or more room than was asked for stays, all stays as it is until it
 /// is due again.
+#[inline(always)]
 fn give_back(notes: &mut VecDeque<StampNote>, tried: &mut usize)
     ensures same { notes.new.items ≡ notes.old.items }
     ensures tried { tried.new

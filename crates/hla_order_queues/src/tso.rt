@@ -97,6 +97,7 @@ impl TsoQueue {
 
     /// Puts an event at its place; the event comes back, and the queue is as it was, where a growth was refused. It looks
     /// at a logarithm of the events, and moves fewer than lie in a block.
+    #[inline(always)]
     pub fn insert(&mut self, event: Event) -> Result<(), Event>
         requires { find_event event.sender event.serial self.old ≡ None }
         ensures ok { OnOk result (self.new ≡ insert_event event self.old) }
@@ -118,6 +119,7 @@ impl TsoQueue {
 
     /// Takes the first event, if there is one. It takes no memory, and no other event moves; its name goes at once, unless its
     /// sender sent an earlier one that still waits and another that did not come behind it: then it is looked for by halves.
+    #[inline(always)]
     pub fn take_least(&mut self) -> Option<Event>
         ensures least { result ≡ slice_get self.old 0 }
         ensures rest { self.new ≡ drop 1 self.old }

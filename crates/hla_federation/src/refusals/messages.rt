@@ -36,6 +36,7 @@ impl Parts {
     }
 
     /// Why an interaction may not be sent with this stamp, if it may not.
+    #[inline(always)]
     pub fn send_fault(
         &self,
         federate: FederateNo,
@@ -67,6 +68,7 @@ impl Parts {
     }
 
     /// Whether one of these values is of an attribute whose updates have this order, of this object and now.
+    #[inline(always)]
     pub fn has_order(&self, order: Order, object: ObjectNo, values: &[HandleValuePair]) -> bool
         ensures { result ≡ list_any (λ (v : HandleValuePair). is_of_order order
             (order_of_attribute (state_of self.now).directory object v.handle)) values.now }
@@ -88,6 +90,7 @@ impl Parts {
     }
 
     /// Why attributes may not be updated with this stamp, if they may not.
+    #[inline(always)]
     pub fn update_fault(
         &self,
         federate: FederateNo,
