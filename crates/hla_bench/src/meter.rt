@@ -1,7 +1,8 @@
 //! A federation whose steps are counted, and what is played on it.
 //!
 //! A federation, a step, an answer or a list of records goes to `drop` by name: such a call is proved once, and what goes out of
-//! scope is taken apart, variant by variant, at each end of the function that lets it.
+//! scope is taken apart, variant by variant, at each end of the function that lets it. The answer to a tick does not, since a call
+//! would move it.
 
 use crate::advancing::name_of;
 use crate::counts::Counts;
@@ -57,6 +58,17 @@ pub enum Brought {
     Message,
     Grant(Ticks),
     Other,
+}
+
+/// What a callback brings.
+fn brought_by(callback: &Callback) -> Brought {
+    match callback {
+        Callback::ReceiveInteraction { .. } | Callback::ReflectAttributeValues { .. } => {
+            Brought::Message
+        }
+        Callback::TimeAdvanceGrant { time } => Brought::Grant(*time),
+        _ => Brought::Other,
+    }
 }
 
 /// What ticks brought a federate until they brought a grant or nothing.
@@ -236,18 +248,13 @@ impl Meter {
         if self.history.is_some() {
             self.record(Step::Tick { federate })?;
         }
-        let Some(callback) = self.federation.tick(federate)? else {
-            return Ok(None);
-        };
-        let brought = match &callback {
-            Callback::ReceiveInteraction { .. } | Callback::ReflectAttributeValues { .. } => {
-                Brought::Message
-            }
-            Callback::TimeAdvanceGrant { time } => Brought::Grant(*time),
-            _ => Brought::Other,
-        };
-        drop(callback);
-        Ok(Some(brought))
+        // It is looked at, and let go, where it lies: moving it takes as long as half a tick.
+        let answer = self.federation.tick(federate);
+        match &answer {
+            Ok(Some(callback)) => Ok(Some(brought_by(callback))),
+            Ok(None) => Ok(None),
+            Err(fault) => Err(*fault),
+        }
     }
 
     /// A federate announces its promise. An error is the fault of the step where it is refused, or `OutOfMemory` where a
