@@ -248,7 +248,7 @@ impl Meter {
         if self.history.is_some() {
             self.record(Step::Tick { federate })?;
         }
-        // It is looked at, and let go, where it lies: moving it takes as long as half a tick.
+        // It is looked at, and let go, where it lies: moving it is dear (docs/PERF.md).
         let answer = self.federation.tick(federate);
         match &answer {
             Ok(Some(callback)) => Ok(Some(brought_by(callback))),
