@@ -1,5 +1,5 @@
 -- Sets of subscribers after a change
-use Rattle.std.proofs.Common.{◌≡◌, ◌≢◌, ℕ, zero, suc, ◌-◌, ◌<◌, ◌≤◌, ◌&&◌, ◌||◌, List, [], ◌∷◌, ◌++◌, length, get_or, set, eqb, cond, true, false, Bool, None, refl, sym, ap, ◌∙◌, subst, arith, ⊎_elim}
+use Rattle.std.proofs.Common.{◌≡◌, ◌≢◌, ℕ, zero, suc, ◌-◌, ◌<◌, ◌≤◌, ◌&&◌, ◌||◌, List, [], ◌∷◌, ◌++◌, length, get_or, set, eqb, cond, true, false, Bool, Option, None, Some, is_some, refl, sym, ap, ◌∙◌, subst, arith, ⊎_elim}
 use Rattle.std.specs.Prelude.{find, bit_or}
 use Rattle.std.specs.List.{list_any}
 use Rattle.std.specs.Int.{bit_at}
@@ -44,6 +44,16 @@ neither_of true b none = absurd (cc)
 pub find_of_none : (p : ℕ → Bool) (xs : List ℕ) → list_any p xs ≡ false → find p xs ≡ None
 find_of_none p [] none = refl
 find_of_none p (x ∷ xs) none = let parts = neither_of (p x) (list_any p xs) none in rw (parts.0) (find_of_none p xs parts.1)
+
+-- something is found where the first is, and where another is
+found_more : (b : Bool) (x : ℕ) (o : Option ℕ) → (b || is_some o) ≡ is_some (cond b (Some x) o)
+found_more true x o = refl
+found_more false x o = refl
+
+-- where one is, one is found
+pub found_is : (p : ℕ → Bool) (xs : List ℕ) → list_any p xs ≡ is_some (find p xs)
+found_is p [] = refl
+found_is p (x ∷ xs) = ap (λ b. p x || b) (found_is p xs) ∙ found_more (p x) x (find p xs)
 
 -- a test beside one that holds
 both : (a b x y : Bool) → b ≡ true → cond a x y ≡ cond (a && b) x y

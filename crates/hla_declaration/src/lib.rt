@@ -9,6 +9,8 @@ mod queries;
 mod receiver;
 mod receiving;
 mod subscribers;
+mod subscribing;
 
 pub use declarations::Declarations;
 pub use receiver::Receiver;
+pub use subscribing::Subscribers;

@@ -18,3 +18,5 @@ pub mod Announcing
 pub mod Tidings
 -- The messages of an outbox, for each federate
 pub mod Outboxes
+-- Events that are put on wires, and are taken back
+pub mod TakingBack

@@ -8,6 +8,8 @@ pub mod Noting
 pub mod Outboxes
 -- What is done with members and their wires
 pub mod Members
+-- Events that are put on wires, and are taken back where memory runs out
+pub mod Putting
 -- What services change of one component
 pub mod Changes
 -- What the joined federates are to be told of synchronization points

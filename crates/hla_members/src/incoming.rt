@@ -1,15 +1,17 @@
 //! The wires to one federate.
 
-ghost use Rattle.std.specs.Prelude.{◌≡◌, ◌≢◌, ◌<◌, ◌≤◌, ◌+◌, [], ℕ, true, IfOk, IfErr, OnOk, OnErr, drop};
+ghost use Rattle.std.specs.Prelude.{◌≡◌, ◌≢◌, ◌<◌, ◌≤◌, ◌+◌, ◌∷◌, ◌++◌, [], ℕ, true, IfOk, IfErr, OnOk, OnErr, drop};
 ghost use Rattle.hla_base.specs.Limits.{max_joins};
 ghost use Rattle.hla_base.specs.declared.fault.Fault.TheVariants.{OutOfMemory};
 ghost use Rattle.hla_base.specs.Tables.{upd};
+ghost use Rattle.hla_null_message.specs.declared.message.Message.TheVariants as message;
 ghost use Rattle.hla_null_message.specs.Wires.{put_behind};
 ghost use Rattle.hla_execution.specs.MemberValue.{item};
 ghost use Rattle.hla_members.specs.Members.{AreQuiet, MayArrive, HasAccepted, carried_of, arrival_takes_memory};
+ghost use Rattle.hla_members.specs.Putting.{without_last};
 
 use crate::messages::carried_by;
-use hla_base::{Fault, FederateNo, MAX_JOINS};
+use hla_base::{Fault, FederateNo, MAX_JOINS, SharedEvent};
 use hla_local::Local;
 use hla_machine::Carried;
 use hla_null_message::{Message, Wire};
@@ -100,6 +102,30 @@ impl Incoming {
         ensures room { (g : ℕ) → from ≢ g → item 0 self.new.rooms g ≡ item 0 self.old.rooms g }
     {
         self.wires[from as usize - 1].put(message)
+    }
+
+    /// Puts an event on the wire from a federate, behind the other messages; `OutOfMemory`, and all as it was, where a growth
+    /// was refused.
+    #[inline(always)]
+    pub fn put_event(&mut self, from: FederateNo, event: SharedEvent) -> Result<(), Fault>
+        requires some { 0 < from }
+        requires within { from ≤ max_joins }
+        ensures wires { OnOk result (item [] self.new.wires ≡ upd (item [] self.old.wires) from
+            (item [] self.old.wires from ++ message.Event event ∷ [])) }
+        ensures back { OnOk result (without_last from self.new.wires ≡ self.old.wires) }
+        ensures err { IfErr result (λ e. e ≡ Fault.OutOfMemory) }
+        ensures unchanged { OnErr result (self.new.wires ≡ self.old.wires) }
+    {
+        self.wires[from as usize - 1].put_event(event)
+    }
+
+    /// Takes the message that was put last off the wire from a federate, if there is one.
+    pub fn take_last(&mut self, from: FederateNo)
+        requires some { 0 < from }
+        requires within { from ≤ max_joins }
+        ensures { self.new.wires ≡ without_last from self.old.wires }
+    {
+        self.wires[from as usize - 1].take_last();
     }
 
     /// The first message on the wire from a federate comes to its receiver's component; `OutOfMemory`, and all as it was,

@@ -11,6 +11,7 @@ mod members;
 mod messages;
 mod note;
 mod outbox;
+mod putting;
 mod telling;
 
 pub use change::Change;

@@ -1,6 +1,6 @@
 //! One federate of an execution.
 
-ghost use Rattle.std.specs.Prelude.{◌≡◌, ◌≢◌, ◌<◌, ◌≤◌, ◌+◌, [], ℕ, true, IfOk, IfErr, OnOk, OnErr, drop};
+ghost use Rattle.std.specs.Prelude.{◌≡◌, ◌≢◌, ◌<◌, ◌≤◌, ◌+◌, ◌∷◌, ◌++◌, [], ℕ, true, IfOk, IfErr, OnOk, OnErr, drop};
 ghost use Rattle.hla_base.specs.Limits.{max_joins, largest_number};
 ghost use Rattle.hla_base.specs.declared.fault.Fault.TheVariants.{OutOfMemory};
 ghost use Rattle.hla_base.specs.Tables.{upd};
@@ -8,6 +8,7 @@ ghost use Rattle.hla_lbts.specs.Peers.{peers_of};
 ghost use Rattle.hla_component_rules.specs.LocalValue.{new_local, no_peers};
 ghost use Rattle.hla_component_rules.specs.Picking.{PickConstrains, picked_by, local_pick, local_picking};
 ghost use Rattle.hla_components.specs.Locals.{callback_given};
+ghost use Rattle.hla_null_message.specs.declared.message.Message.TheVariants as message;
 ghost use Rattle.hla_null_message.specs.Wires.{put_behind};
 ghost use Rattle.hla_retraction.specs.SentEvents.{no_event};
 ghost use Rattle.hla_retraction.specs.SentRows.{sent_of};
@@ -15,13 +16,14 @@ ghost use Rattle.hla_members.specs.Noting.{noted_event, IsUnsentFrom};
 ghost use Rattle.hla_execution.specs.MemberValue.{item};
 ghost use Rattle.hla_members.specs.Members.{carried_of, new_member, resigned_member, AreQuiet, MayArrive, HasAccepted, arrival_takes_memory};
 ghost use Rattle.hla_members.specs.Changes.{changed_local, local_unconstrained, peers_lowered, MayChange};
+ghost use Rattle.hla_members.specs.Putting.{member_without_last};
 ghost use Rattle.hla_members.specs.Telling.{member_told, member_untold};
 
 use crate::change::Change;
 use crate::incoming::Incoming;
 use crate::messages::callback_of;
 use crate::note::Note;
-use hla_base::{Fault, FederateNo, List, Notice, Serial, Ticks};
+use hla_base::{Fault, FederateNo, List, Notice, Serial, SharedEvent, Ticks};
 use hla_callbacks::Callback;
 use hla_local::Local;
 use hla_machine::Carried;
@@ -175,6 +177,33 @@ impl Member {
         ensures room { (g : ℕ) → from ≢ g → item 0 self.new.rooms g ≡ item 0 self.old.rooms g }
     {
         self.incoming.put(from, message)
+    }
+
+    /// Puts an event on the wire from a federate, behind the other messages; `OutOfMemory`, and all as it was, where a growth
+    /// was refused.
+    #[inline(always)]
+    pub fn put_event(&mut self, from: FederateNo, event: SharedEvent) -> Result<(), Fault>
+        requires some { 0 < from }
+        requires within { from ≤ max_joins }
+        ensures same { self.new.shown
+            ≡ record self.old.shown { incoming = self.new.shown.incoming } }
+        ensures wires { OnOk result
+            (item [] self.new.shown.incoming ≡ upd (item [] self.old.shown.incoming) from
+            (item [] self.old.shown.incoming from ++ message.Event event ∷ [])) }
+        ensures back { OnOk result (member_without_last from self.new.shown ≡ self.old.shown) }
+        ensures err { IfErr result (λ e. e ≡ Fault.OutOfMemory) }
+        ensures unchanged { OnErr result (self.new.shown ≡ self.old.shown) }
+    {
+        self.incoming.put_event(from, event)
+    }
+
+    /// Takes the message that was put last off the wire from a federate, if there is one.
+    pub fn take_last(&mut self, from: FederateNo)
+        requires some { 0 < from }
+        requires within { from ≤ max_joins }
+        ensures { self.new.shown ≡ member_without_last from self.old.shown }
+    {
+        self.incoming.take_last(from);
     }
 
     /// Its component.

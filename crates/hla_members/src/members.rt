@@ -155,7 +155,7 @@ impl Members {
     /// Of a message that a federate may retract, if there is one, is noted what is needed for that; `OutOfMemory`, and all
     /// as it was, where a growth was refused.
     #[inline(always)]
-    fn note(&mut self, federate: FederateNo, note: Option<Note>) -> Result<(), Fault>
+    pub(crate) fn note(&mut self, federate: FederateNo, note: Option<Note>) -> Result<(), Fault>
         requires some { 0 < federate }
         requires within { federate < (members_of self.old.shown).next_federate }
         requires unsent { IfSome note

@@ -1,10 +1,10 @@
 -- What is put on a wire, by its last message
-use Rattle.std.proofs.Common.{◌≡◌, ℕ, ◌-◌, ◌<◌, true, false, refl, sym, ap, ◌∙◌, arith, List, [], ◌∷◌, ◌++◌, length, take, slice_index_or}
+use Rattle.std.proofs.Common.{◌≡◌, ℕ, ◌-◌, ◌<◌, Bool, true, false, refl, sym, ap, ◌∙◌, arith, List, [], ◌∷◌, ◌++◌, length, take, set, slice_index_or, not}
 use Rattle.std.proofs.lemmas.List.{append-nil, append_assoc}
 use native.Mathlib.Numerals.{unary_clauses}
 use Rattle.hla_null_message.specs.declared.message.Message.{Message}
 use Rattle.hla_null_message.specs.declared.message.Message.TheVariants as message
-use Rattle.hla_null_message.specs.Wires.{is_null_of, ends_with_null, without_last_null, put_behind, put_all_behind}
+use Rattle.hla_null_message.specs.Wires.{is_null_of, ends_with_null, without_last_null, put_behind, put_all_behind, takes_room}
 
 index_next : (x n : Message) (ms : List Message) (m : Message) → slice_index_or (x ∷ n ∷ ms) (length (x ∷ n ∷ ms) - 1) m ≡ slice_index_or (n ∷ ms) (length (n ∷ ms) - 1) m
 index_next x n ms m = simp unary_clauses
@@ -44,6 +44,32 @@ without_last k (message.Retraction m ∷ []) last = absurd (cc)
 without_last k (message.Retraction m ∷ n ∷ ms) last = ap (λ (xs : List Message). message.Retraction m ∷ xs) (without_last k (n ∷ ms) last) ∙ sym (take_next (message.Retraction m) n ms)
 without_last k (message.Discovery d ∷ []) last = absurd (cc)
 without_last k (message.Discovery d ∷ n ∷ ms) last = ap (λ (xs : List Message). message.Discovery d ∷ xs) (without_last k (n ∷ ms) last) ∙ sym (take_next (message.Discovery d) n ms)
+
+-- and in its place another one is put
+set_next : (x n m : Message) (ms : List Message) → set (x ∷ n ∷ ms) (length (x ∷ n ∷ ms) - 1) m ≡ x ∷ set (n ∷ ms) (length (n ∷ ms) - 1) m
+set_next x n m ms = simp unary_clauses
+
+pub renewed : (k : ℕ) (ms : List Message) (m : Message) → ends_with_null k ms ≡ true → set ms (length ms - 1) m ≡ without_last_null k ms ++ m ∷ []
+renewed k [] m last = absurd (cc)
+renewed k (message.Event e ∷ []) m last = absurd (cc)
+renewed k (message.Event e ∷ n ∷ ms) m last = set_next (message.Event e) n m ms ∙ ap (λ (xs : List Message). message.Event e ∷ xs) (renewed k (n ∷ ms) m last)
+renewed k (message.Null j v ∷ []) m last = rw last refl
+renewed k (message.Null j v ∷ n ∷ ms) m last = set_next (message.Null j v) n m ms ∙ ap (λ (xs : List Message). message.Null j v ∷ xs) (renewed k (n ∷ ms) m last)
+renewed k (message.Retraction r ∷ []) m last = absurd (cc)
+renewed k (message.Retraction r ∷ n ∷ ms) m last = set_next (message.Retraction r) n m ms ∙ ap (λ (xs : List Message). message.Retraction r ∷ xs) (renewed k (n ∷ ms) m last)
+renewed k (message.Discovery d ∷ []) m last = absurd (cc)
+renewed k (message.Discovery d ∷ n ∷ ms) m last = set_next (message.Discovery d) n m ms ∙ ap (λ (xs : List Message). message.Discovery d ∷ xs) (renewed k (n ∷ ms) m last)
+
+-- what takes room stands behind all others
+pub put_at_end : (m : Message) (ms : List Message) → not (takes_room m ms) ≡ false → put_behind m ms ≡ ms ++ m ∷ []
+put_at_end (message.Event e) ms takes = refl
+put_at_end (message.Null k v) ms takes = ap (λ (xs : List Message). xs ++ message.Null k v ∷ []) (without_none k ms (not_twice (ends_with_null k ms) takes))
+  where
+    not_twice : (b : Bool) → not (not b) ≡ false → b ≡ false
+    not_twice true is = absurd (cc)
+    not_twice false is = refl
+put_at_end (message.Retraction r) ms takes = refl
+put_at_end (message.Discovery d) ms takes = refl
 
 -- ---- messages that are put one behind the other
 pub put_all-append : (ns os ms : List Message) → put_all_behind (ns ++ os) ms ≡ put_all_behind os (put_all_behind ns ms)

@@ -1,12 +1,13 @@
 //! A wire from one component to another.
 
-ghost use Rattle.std.specs.Prelude.{◌≡◌, ◌∷◌, ◌<◌, ◌≤◌, ◌+◌, ◌-◌, [], OnOk, OnSome, IfErr, cond, true, drop, slice_get, IsTrue, ◌↔◌};
+ghost use Rattle.std.specs.Prelude.{◌≡◌, ◌∷◌, ◌++◌, ◌<◌, ◌≤◌, ◌-◌, [], OnOk, OnErr, OnSome, IfErr, cond, not, true, drop, take, length, slice_get, IsTrue, ◌↔◌};
 ghost use Rattle.std.specs.Option.{option_copied};
 ghost use Rattle.hla_base.specs.declared.fault.Fault.TheVariants.{OutOfMemory};
-ghost use Rattle.hla_null_message.specs.Wires.{ends_with_null, put_behind, takes_room, without_last_null};
+ghost use Rattle.hla_null_message.specs.declared.message.Message.TheVariants as message;
+ghost use Rattle.hla_null_message.specs.Wires.{ends_with_null, put_behind, takes_room};
 
 use crate::message::Message;
-use hla_base::Fault;
+use hla_base::{Fault, SharedEvent, Ticks};
 use std::alloc::Global;
 use std::collections::VecDeque;
 use std::marker::Model;
@@ -71,16 +72,35 @@ impl Wire {
         }
     }
 
-    /// Takes the message that was put last, where it is a null message of this epoch.
-    fn take_last_null(&mut self, epoch: u64) -> Option<Message>
-        ensures messages { self.new.messages ≡ without_last_null epoch self.old.messages }
-        ensures room { self.new.room ≡
-            cond (ends_with_null epoch self.old.messages) (self.old.room + 1) self.old.room }
+    /// Whether the message that was put last is a null message of this epoch; where it is, it has this bound from now on.
+    #[inline(always)]
+    fn renew_last_null(&mut self, epoch: u64, bound: Ticks) -> bool
+        ensures renewed { result ≡ ends_with_null epoch self.old.messages }
+        ensures messages { self.new.messages
+            ≡ cond result (put_behind (message.Null epoch bound) self.old.messages)
+            self.old.messages }
+        ensures room { self.new.room ≡ self.old.room }
     {
-        if self.ends_with_null(epoch) {
-            self.messages.pop_back()
-        } else {
-            None
+        if !self.ends_with_null(epoch) {
+            return false;
+        }
+        let last = self.messages.len() - 1;
+        self.messages[last] = Message::Null { epoch, bound };
+        true
+    }
+
+    /// Whether a message is a null message of the epoch of the one that was put last; where it is, that has its bound from now
+    /// on.
+    #[inline(always)]
+    fn joins_last_null(&mut self, message: &Message) -> bool
+        ensures joined { result ≡ not (takes_room message.now self.old.messages) }
+        ensures messages { self.new.messages
+            ≡ cond result (put_behind message.now self.old.messages) self.old.messages }
+        ensures room { self.new.room ≡ self.old.room }
+    {
+        match message {
+            Message::Null { epoch, bound } => self.renew_last_null(*epoch, *bound),
+            _ => false,
         }
     }
 
@@ -92,10 +112,32 @@ impl Wire {
         ensures room { self.new.room ≡
             cond (takes_room message self.old.messages) (self.old.room - 1) self.old.room }
     {
-        if let Message::Null { epoch, .. } = message {
-            let _ = self.take_last_null(epoch);
+        if !self.joins_last_null(&message) {
+            self.messages.push_back_reserved(message);
         }
-        self.messages.push_back_reserved(message);
+    }
+
+    /// Puts an event on the wire, behind the other messages; `OutOfMemory`, and the messages as they were, where a growth was
+    /// refused.
+    #[inline(always)]
+    pub fn put_event(&mut self, event: SharedEvent) -> Result<(), Fault>
+        ensures ok { OnOk result
+            (self.new.messages ≡ self.old.messages ++ message.Event event ∷ []) }
+        ensures err { IfErr result (λ e. e ≡ Fault.OutOfMemory) }
+        ensures unchanged { OnErr result (self.new.messages ≡ self.old.messages) }
+    {
+        let Ok(()) = self.messages.reserve(1) else {
+            return Err(Fault::OutOfMemory);
+        };
+        self.messages.push_back_reserved(Message::Event(event));
+        Ok(())
+    }
+
+    /// Takes the message that was put last off, if there is one.
+    pub fn take_last(&mut self)
+        ensures { self.new.messages ≡ take (length self.old.messages - 1) self.old.messages }
+    {
+        let _ = self.messages.pop_back();
     }
 
     /// The message that was put first, if there is one.
