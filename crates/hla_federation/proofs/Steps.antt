@@ -24,9 +24,11 @@ pub mod SendingAll
 pub mod Noting
 -- What is put into an outbox for each receiver
 pub mod Addressing
--- To whom a message was put into an outbox
+-- To whom a message was sent
 pub mod Receiving
--- The parts after messages were sent from an outbox
+-- Interactions and updates on the wires, one receiver after another
+pub mod Posting
+-- The parts after messages were sent
 pub mod Sent
 -- How many messages an update makes, and its refusals
 pub mod Updates

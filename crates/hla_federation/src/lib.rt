@@ -16,6 +16,7 @@ mod naming;
 mod ordering;
 mod pairs;
 mod parts;
+mod posting;
 mod reflecting;
 mod refusals;
 mod registering;

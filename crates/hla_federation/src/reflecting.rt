@@ -9,7 +9,7 @@ ghost use Rattle.hla_base.specs.declared.content.HandleValuePair.{HandleValuePai
 ghost use Rattle.hla_base.specs.declared.fault.Fault.TheVariants.{OutOfMemory};
 ghost use Rattle.hla_catalogue.specs.Lookup.{contains_number};
 ghost use Rattle.hla_machine.specs.Directory.{reflection_of, subscribed_values};
-ghost use Rattle.hla_federation.specs.Steps.Reflecting.{IsMade, event_messages};
+ghost use Rattle.hla_federation.specs.Steps.Reflecting.{IsMade, attributes_at, event_messages};
 ghost use Rattle.hla_federation.specs.Steps.Sending.{said_under, said_messages};
 ghost use Rattle.hla_federation.specs.Steps.State.{state_of};
 
@@ -20,29 +20,14 @@ use hla_base::{
 };
 use hla_declaration::Receiver;
 
-/// What was made of an update for those who subscribe these attributes: nothing, where the update says nothing of them.
+/// What was made of an update for those who subscribe the same attributes as one receiver: nothing, where the update says
+/// nothing of them.
 #[derive(Debug, Drop)]
-pub(crate) struct Made<'a> {
-    subscribed: &'a [AttributeNo],
+pub(crate) struct Made {
+    receiver: Receiver,
     /// The place of the first value that they are not shown.
     hidden: usize,
     event: Option<SharedEvent>,
-}
-
-/// What was made for others, if they subscribe just these attributes. Most lists differ in the first value that is hidden, too,
-/// which costs less to see.
-fn made_for<'a, 'b>(
-    made: &'a Option<Made<'b>>,
-    subscribed: &[AttributeNo],
-    hidden: usize,
-) -> Option<&'a Made<'b>>
-    ensures same { IfSome result (λ m. m.now.subscribed.now ≡ subscribed.now) }
-    ensures made { IfSome result (λ m. made.now ≡ Some m.now) }
-{
-    match made {
-        Some(one) if one.hidden == hidden && one.subscribed == subscribed => Some(one),
-        _ => None,
-    }
 }
 
 /// One more share of an event, if there is one. `OutOfMemory` where the share was refused.
@@ -88,6 +73,36 @@ fn is_shown(subscribed: &[AttributeNo], attribute: AttributeNo, place: usize, hi
 }
 
 impl Parts {
+    /// The attributes that a receiver subscribes at its class.
+    #[inline(always)]
+    fn attributes_of(&self, receiver: Receiver) -> &[AttributeNo]
+        ensures { result.now ≡ attributes_at
+            (state_of self.now).directory.subscribed receiver }
+    {
+        self.declarations
+            .subscribed_attributes(receiver.federate, receiver.class)
+    }
+
+    /// What was made for others, if they subscribe just these attributes. Most lists differ in the first value that is hidden,
+    /// too, which costs less to see.
+    fn made_for<'a>(
+        &self,
+        made: &'a Option<Made>,
+        subscribed: &[AttributeNo],
+        hidden: usize,
+    ) -> Option<&'a Made>
+        ensures same { IfSome result (λ m. attributes_at
+            (state_of self.now).directory.subscribed m.now.receiver
+            ≡ subscribed.now) }
+        ensures made { IfSome result (λ m. made.now ≡ Some m.now) }
+    {
+        match made {
+            Some(one) if one.hidden == hidden && self.attributes_of(one.receiver) == subscribed =>
+                Some(one),
+            _ => None,
+        }
+    }
+
     /// The values of the attributes that are subscribed, where the first that is not is at this place. `OutOfMemory` where
     /// a growth was refused.
     fn shown_attributes(
@@ -142,26 +157,34 @@ impl Parts {
     /// The same part: a share of what was made for others that subscribe the same, where that was kept. The first part is
     /// kept and no other, so that a receiver compares its attributes with one list at most, and costs no more than a value
     /// that is looked for in it. `OutOfMemory` where a growth was refused; nothing is said of `made` then.
-    fn shared_part<'a>(
+    fn shared_part(
         &self,
-        made: &mut Option<Made<'a>>,
+        made: &mut Option<Made>,
         heading: Heading,
         object: ObjectNo,
         values: &SharedList<HandleValuePair>,
-        subscribed: &'a [AttributeNo],
+        receiver: Receiver,
         hidden: usize,
     ) -> Result<Option<SharedEvent>, Fault>
-        requires made { IfSome made.old (IsMade heading object values.now) }
+        requires made { IfSome made.old
+            (IsMade (state_of self.now).directory.subscribed heading object
+            values.now) }
         requires hidden { position
-            (λ (v : HandleValuePair). not (contains_number v.handle subscribed.now)) values.now
+            (λ (v : HandleValuePair). not (contains_number v.handle (attributes_at
+            (state_of self.now).directory.subscribed receiver))) values.now
             ≡ Some hidden }
-        ensures made { OnOk result (IfSome made.new (IsMade heading object values.now)) }
+        ensures made { OnOk result (IfSome made.new
+            (IsMade (state_of self.now).directory.subscribed heading object
+            values.now)) }
         ensures ok { IfOk result
             (λ e. event_messages e ≡ said_messages heading (reflection_of object (filter
-            (λ (v : HandleValuePair). contains_number v.handle subscribed.now) values.now))) }
+            (λ (v : HandleValuePair). contains_number v.handle (attributes_at
+            (state_of self.now).directory.subscribed receiver))
+            values.now))) }
         ensures err { IfErr result (λ e. e ≡ Fault.OutOfMemory) }
     {
-        if let Some(same) = made_for(made, subscribed, hidden) {
+        let subscribed = self.attributes_of(receiver);
+        if let Some(same) = self.made_for(made, subscribed, hidden) {
             let share = share_of(&same.event)?;
             return Ok(share);
         }
@@ -171,43 +194,49 @@ impl Parts {
         }
         let share = share_of(&event)?;
         *made = Some(Made {
-            subscribed,
+            receiver,
             hidden,
             event,
         });
         Ok(share)
     }
 
-    /// The update for those who subscribe these attributes: a share of `whole` where these are all that it says; nothing
+    /// The update as a receiver is shown it: a share of `whole` where these are all that it says; nothing
     /// where it says nothing of them. `OutOfMemory` where a growth was refused; nothing is said of `made` then.
-    fn reflection_for<'a>(
+    fn reflection_for(
         &self,
-        made: &mut Option<Made<'a>>,
+        made: &mut Option<Made>,
         whole: &SharedEvent,
         heading: Heading,
         object: ObjectNo,
         values: &SharedList<HandleValuePair>,
-        subscribed: &'a [AttributeNo],
+        receiver: Receiver,
     ) -> Result<Option<SharedEvent>, Fault>
         requires whole { whole.now ≡ said_under heading (content.Reflection object values.now) }
-        requires made { IfSome made.old (IsMade heading object values.now) }
-        ensures made { OnOk result (IfSome made.new (IsMade heading object values.now)) }
+        requires made { IfSome made.old
+            (IsMade (state_of self.now).directory.subscribed heading object
+            values.now) }
+        ensures made { OnOk result (IfSome made.new
+            (IsMade (state_of self.now).directory.subscribed heading object
+            values.now)) }
         ensures ok { IfOk result
             (λ e. event_messages e ≡ said_messages heading (reflection_of object (filter
-            (λ (v : HandleValuePair). contains_number v.handle subscribed.now) values.now))) }
+            (λ (v : HandleValuePair). contains_number v.handle (attributes_at
+            (state_of self.now).directory.subscribed receiver))
+            values.now))) }
         ensures err { IfErr result (λ e. e ≡ Fault.OutOfMemory) }
     {
         if values.is_empty() {
             return Ok(None);
         }
-        match first_hidden(subscribed, values.as_slice()) {
+        match first_hidden(self.attributes_of(receiver), values.as_slice()) {
             None => {
                 let share = whole.share()?;
                 Ok(Some(share))
             }
             // The only value is hidden.
             Some(_) if values.len() == 1 => Ok(None),
-            Some(hidden) => { self.shared_part(made, heading, object, values, subscribed, hidden) }
+            Some(hidden) => self.shared_part(made, heading, object, values, receiver, hidden),
         }
     }
 
@@ -216,9 +245,9 @@ impl Parts {
     /// who subscribe all and those who subscribe one part, cost two events. `OutOfMemory` where a growth was refused;
     /// nothing is said of `made` then.
     #[inline(always)]
-    pub(crate) fn shared_reflection<'a>(
-        &'a self,
-        made: &mut Option<Made<'a>>,
+    pub(crate) fn shared_reflection(
+        &self,
+        made: &mut Option<Made>,
         whole: &SharedEvent,
         heading: Heading,
         object: ObjectNo,
@@ -226,17 +255,18 @@ impl Parts {
         receiver: Receiver,
     ) -> Result<Option<SharedEvent>, Fault>
         requires whole { whole.now ≡ said_under heading (content.Reflection object values.now) }
-        requires made { IfSome made.old (IsMade heading object values.now) }
-        ensures made { OnOk result (IfSome made.new (IsMade heading object values.now)) }
+        requires made { IfSome made.old
+            (IsMade (state_of self.now).directory.subscribed heading object
+            values.now) }
+        ensures made { OnOk result (IfSome made.new
+            (IsMade (state_of self.now).directory.subscribed heading object
+            values.now)) }
         ensures ok { IfOk result
             (λ e. event_messages e ≡ said_messages heading (reflection_of object
             (subscribed_values
             (state_of self.now).directory receiver.federate receiver.class values.now))) }
         ensures err { IfErr result (λ e. e ≡ Fault.OutOfMemory) }
     {
-        let subscribed = self
-            .declarations
-            .subscribed_attributes(receiver.federate, receiver.class);
-        self.reflection_for(made, whole, heading, object, values, subscribed)
+        self.reflection_for(made, whole, heading, object, values, receiver)
     }
 }

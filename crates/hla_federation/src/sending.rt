@@ -21,16 +21,13 @@ use crate::heading::{Heading, is_timestamp};
 use crate::pairs::shared_by_handle;
 use crate::parts::Parts;
 use hla_base::{
-    ClassNo, Content, EventHandle, Fault, FederateNo, FederateSet, HandleValuePair, List,
-    MAX_JOINS, ObjectNo, Plain, Serial, SharedEvent, SharedList, Ticks,
+    ClassNo, Content, EventHandle, Fault, FederateNo, HandleValuePair, List, ObjectNo, Plain,
+    Serial, SharedEvent, SharedList, Ticks,
 };
 use hla_catalogue::Order;
 use hla_machine::Answer;
 use hla_members::{Note, Outbox};
 use hla_null_message::Message;
-
-/// How many messages an update makes at most: two to each federate that may join, one of either order.
-const UPDATE_ROOM: usize = 2 * MAX_JOINS;
 
 /// The handle by which its sender may retract a message, if there is one to retract.
 fn handle_noted(sender: FederateNo, note: &Option<Note>) -> Option<EventHandle>
@@ -101,7 +98,7 @@ impl Parts {
     /// The interaction as those receive it who do so at a class: with the parameters that the class has. `OutOfMemory`
     /// where a growth was refused.
     #[inline(always)]
-    fn interaction_at(
+    pub(crate) fn interaction_at(
         &self,
         heading: Heading,
         class: ClassNo,
@@ -118,7 +115,8 @@ impl Parts {
 
     /// The same for one who receives it at a class: a share of `whole`, where that is as it is at this class. `OutOfMemory`
     /// where a growth was refused.
-    fn interaction_for(
+    #[inline(always)]
+    pub(crate) fn interaction_for(
         &self,
         whole: &SharedEvent,
         whole_class: ClassNo,
@@ -174,7 +172,7 @@ impl Parts {
 
     /// The values of the attributes whose updates have this order, shared: those that are given, where all of them have it.
     /// `OutOfMemory` where a growth was refused.
-    fn values_of_order(
+    pub(crate) fn values_of_order(
         &self,
         object: ObjectNo,
         order: Order,
@@ -219,77 +217,6 @@ impl Parts {
         }
     }
 
-    /// Adds an interaction for each federate that receives it, at the class at which it does, and answers who they are.
-    /// `OutOfMemory` where a growth was refused; nothing is said of the outbox then.
-    fn address_interaction(
-        &self,
-        outbox: &mut Outbox,
-        heading: Heading,
-        class: ClassNo,
-        values: &SharedList<HandleValuePair>,
-    ) -> Result<FederateSet, Fault>
-        requires { IsWhole self.now }
-        ensures receivers { IfOk result
-            (λ rs. federate_set rs ≡ is_receiver (state_of self.now).directory
-            heading.sender (AnInteraction class values.now)) }
-        ensures ok { OnOk result (HasAdded (message_to (state_of self.now).directory heading
-            (AnInteraction class values.now)) outbox.old outbox.new) }
-        ensures err { IfErr result (λ e. e ≡ Fault.OutOfMemory) }
-    {
-        let mut told = FederateSet::new();
-        let receivers = self
-            .declarations
-            .receivers_of_interaction_class(self.alloc, &self.catalogue, heading.sender, class)?;
-        let whole = self.interaction_at(heading, class, values)?;
-        for receiver in receivers.as_slice() {
-            let event = self.interaction_for(&whole, class, heading, receiver.class, values)?;
-            outbox.put(receiver.federate, Message::Event(event))?;
-            told.add(receiver.federate);
-        }
-        Ok(told)
-    }
-
-    /// Adds an update for each federate that receives it, with the attributes that it is shown, and answers who they are.
-    /// `OutOfMemory` where a growth was refused; nothing is said of the outbox then.
-    #[inline(always)]
-    fn address_update(
-        &self,
-        outbox: &mut Outbox,
-        heading: Heading,
-        object: ObjectNo,
-        values: &SharedList<HandleValuePair>,
-    ) -> Result<FederateSet, Fault>
-        requires { IsWhole self.now }
-        ensures receivers { IfOk result
-            (λ rs. federate_set rs ≡ is_receiver (state_of self.now).directory
-            heading.sender (AnUpdate object values.now)) }
-        ensures ok { OnOk result (HasAdded (message_to (state_of self.now).directory heading
-            (AnUpdate object values.now)) outbox.old outbox.new) }
-        ensures err { IfErr result (λ e. e ≡ Fault.OutOfMemory) }
-    {
-        let mut told = FederateSet::new();
-        let class = self.registry.class_of(object);
-        let receivers = self
-            .declarations
-            .receivers_of_object_class(self.alloc, &self.catalogue, heading.sender, class)?;
-        let content = Content::Reflection {
-            object,
-            values: values.copy()?,
-        };
-        let whole = heading.event(self.alloc, content)?;
-        let mut made = None;
-        for receiver in receivers.as_slice() {
-            let reflection = self.shared_reflection(
-                &mut made, &whole, heading, object, values, *receiver,
-            )?;
-            if let Some(event) = reflection {
-                outbox.put(receiver.federate, Message::Event(event))?;
-                told.add(receiver.federate);
-            }
-        }
-        Ok(told)
-    }
-
     /// Whether the removal of an object goes to a federate: to each other to which it is known.
     fn receives_removal(&self, sender: FederateNo, object: ObjectNo, federate: FederateNo) -> bool
         ensures { let d = (state_of self.now).directory in result
@@ -325,62 +252,6 @@ impl Parts {
         Ok(())
     }
 
-    /// Adds a part of an update, and answers who receives it; none where the part has no values, and so makes no message.
-    /// `OutOfMemory` where a growth was refused; nothing is said of the outbox then.
-    #[inline(always)]
-    fn address_part(
-        &self,
-        outbox: &mut Outbox,
-        heading: Heading,
-        object: ObjectNo,
-        values: &SharedList<HandleValuePair>,
-    ) -> Result<Option<FederateSet>, Fault>
-        requires { IsWhole self.now }
-        ensures count { IfOk result
-            (λ told. one_if (is_some told) ≡ length (part_sent Receive object values.now)) }
-        ensures receivers { IfOk result (λ told. IfSome told (λ rs. federate_set rs ≡ is_receiver
-            (state_of self.now).directory heading.sender (AnUpdate object values.now))) }
-        ensures ok { OnOk result
-            (HasAdded (part_to (state_of self.now).directory heading object values.now)
-            outbox.old outbox.new) }
-        ensures err { IfErr result (λ e. e ≡ Fault.OutOfMemory) }
-    {
-        if values.is_empty() {
-            return Ok(None);
-        }
-        let told = self.address_update(outbox, heading, object, values)?;
-        Ok(Some(told))
-    }
-
-    /// Adds the part of an update that has one order, and answers who receives it. Where no value has that order, there is no
-    /// such part, and no list of it is made. `OutOfMemory` where a growth was refused; nothing is said of the outbox then.
-    fn address_order(
-        &self,
-        outbox: &mut Outbox,
-        heading: Heading,
-        object: ObjectNo,
-        order: Order,
-        values: &SharedList<HandleValuePair>,
-    ) -> Result<Option<FederateSet>, Fault>
-        requires { IsWhole self.now }
-        ensures count { IfOk result
-            (λ told. one_if (is_some told) ≡ length (part_sent Receive object
-            (values_of_order (state_of self.now).directory object order values.now))) }
-        ensures receivers { IfOk result (λ told. IfSome told (λ rs. federate_set rs ≡ is_receiver
-            (state_of self.now).directory heading.sender (AnUpdate object
-            (values_of_order (state_of self.now).directory object order values.now)))) }
-        ensures ok { OnOk result (HasAdded (part_to (state_of self.now).directory heading object
-            (values_of_order (state_of self.now).directory object order values.now))
-            outbox.old outbox.new) }
-        ensures err { IfErr result (λ e. e ≡ Fault.OutOfMemory) }
-    {
-        if !self.has_order(order, object, values.as_slice()) {
-            return Ok(None);
-        }
-        let part = self.values_of_order(object, order, values)?;
-        self.address_part(outbox, heading, object, &part)
-    }
-
     /// Send Interaction, with a stamp in ticks or without one. It goes in time-stamp order if that is now the order of the
     /// federate's interactions of the class, a stamp is given and the federate regulates. Refused, it changes nothing:
     /// `InteractionClassNotDefined` where the FED file has no such class; `InteractionParameterNotDefined` where the class has not each of the parameters;
@@ -406,11 +277,13 @@ impl Parts {
         let order = self.order_of_interaction(federate, class);
         let heading = self.heading(federate, serial, order, stamp);
         let values = shared_by_handle(self.alloc, values)?;
-        let mut outbox = Outbox::new(self.alloc)?;
-        let told = self.address_interaction(&mut outbox, heading, class, &values)?;
+        let told = self.post_interaction(heading, class, &values)?;
         let note = heading.note(told);
         let handle = handle_noted(federate, &note);
-        self.members.send_all(federate, outbox, 1, note)?;
+        if self.members.count_sent(federate, 1, note).is_err() {
+            self.members.take_back(federate, told);
+            return Err(Fault::OutOfMemory);
+        }
         Ok(Answer::Sent(handle))
     }
 
@@ -439,22 +312,22 @@ impl Parts {
         }
         let serial = self.members.next_serial(federate);
         let values = shared_by_handle(self.alloc, values)?;
-        let mut outbox = Outbox::with_room(self.alloc, UPDATE_ROOM)?;
         let first = self.heading(federate, serial, Order::Receive, stamp);
-        let received_by = self.address_order(&mut outbox, first, object, Order::Receive, &values)?;
+        let received_by = self.post_order(first, object, Order::Receive, &values)?;
         let first_count = u64::from(received_by.is_some());
         let second = self.heading(federate, serial + first_count, Order::Timestamp, stamp);
-        let stamped_by = self.address_order(
-            &mut outbox,
-            second,
-            object,
-            Order::Timestamp,
-            &values,
-        )?;
+        let Ok(stamped_by) = self.post_order(second, object, Order::Timestamp, &values) else {
+            self.take_part_back(federate, received_by);
+            return Err(Fault::OutOfMemory);
+        };
         let count = first_count + u64::from(stamped_by.is_some());
         let note = second.note_part(stamped_by);
         let handle = handle_noted(federate, &note);
-        self.members.send_all(federate, outbox, count, note)?;
+        if self.members.count_sent(federate, count, note).is_err() {
+            self.take_part_back(federate, stamped_by);
+            self.take_part_back(federate, received_by);
+            return Err(Fault::OutOfMemory);
+        }
         Ok(Answer::Sent(handle))
     }
 

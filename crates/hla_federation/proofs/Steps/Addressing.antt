@@ -18,7 +18,7 @@ use Rattle.hla_declaration.specs.Declarations as declared
 use Rattle.hla_declaration.specs.Receivers.{receivers_of, object_class_served, interaction_class_served}
 use Rattle.hla_declaration.specs.declared.receiver.Receiver.{Receiver}
 use Rattle.hla_null_message.specs.declared.message.Message.{Message}
-use Rattle.hla_machine.specs.Directory.{Directory, AnInteraction, AnUpdate, ADeletion, reflection_of, subscribed_values}
+use Rattle.hla_machine.specs.Directory.{Directory, Body, AnInteraction, AnUpdate, ADeletion, reflection_of, subscribed_values}
 use Rattle.hla_federation.specs.declared.heading.Heading.{Heading}
 use Rattle.hla_federation.specs.FederationValue.{FederationValue}
 use Rattle.hla_execution.specs.MemberValue.{item, MemberValue, no_member, members_of}
@@ -110,7 +110,7 @@ module _ (made : Receiver → List Message) (h : ℕ) where
         ≡ cond (not (eqb sender h) && ltb h (n + 1)) (option_map_or (λ k. made (record { federate = h; class = k })) (served h) []) []
     among_receivers n = among_below (n + 1)
 
-said_each : (head : Heading) (said_at : ℕ → Option Content) (o : Option ℕ) → option_map_or (λ k. said_messages head (said_at k)) o [] ≡ said_messages head (option_and_then said_at o)
+pub said_each : (head : Heading) (said_at : ℕ → Option Content) (o : Option ℕ) → option_map_or (λ k. said_messages head (said_at k)) o [] ≡ said_messages head (option_and_then said_at o)
 said_each head said_at None = refl
 said_each head said_at (Some k) = refl
 
@@ -142,7 +142,7 @@ joined_number ms (suc k) y = ⊎_elim
 pub joined_within : (ms : List MemberValue) (h : ℕ) → (item no_member ms h).joined ≡ true → h < length ms + 1
 joined_within ms h y = let number = joined_number ms h y in grind (arith, nat_tests)
 
-find_none : (p : ℕ → Bool) (xs : List ℕ) → ((x : ℕ) → p x ≡ false) → find p xs ≡ None
+pub find_none : (p : ℕ → Bool) (xs : List ℕ) → ((x : ℕ) → p x ≡ false) → find p xs ≡ None
 find_none p [] none = refl
 find_none p (x ∷ xs) none = rw (none x) (find_none p xs none)
 
@@ -168,7 +168,7 @@ interaction_at c values h k = Some (content.Interaction k (filter (λ (v : Handl
 abbrev pub reflection_at : Directory → ℕ → List HandleValuePair → ℕ → ℕ → Option Content
 reflection_at d object values h k = reflection_of object (subscribed_values d h k values)
 
-map_then : {X Y : Type 0} (f : X → Y) (o : Option X) → option_and_then (λ x. Some (f x)) o ≡ option_map f o
+pub map_then : {X Y : Type 0} (f : X → Y) (o : Option X) → option_and_then (λ x. Some (f x)) o ≡ option_map f o
 map_then f None = refl
 map_then f (Some x) = refl
 
@@ -238,19 +238,20 @@ removal_at head object true true = refl
 removal_at head object true false = refl
 removal_at head object false known = refl
 
-module _ (v : FederationValue) (head : Heading) (object : ℕ) where
-  -- to whom a removal goes
-  pub removal_to : (h : ℕ) → message_to (state_of v).directory head (ADeletion object) h
-      ≡ cond (is_other (state_of v).directory.joined head.sender h && (state_of v).directory.known object h) (said_messages head (Some (content.Removal object))) []
-  removal_to h = removal_at head object (is_other (state_of v).directory.joined head.sender h) ((state_of v).directory.known object h)
+-- to whom a removal goes
+pub removal_to : (v : FederationValue) (head : Heading) (object h : ℕ) → message_to (state_of v).directory head (ADeletion object) h
+    ≡ cond (is_other (state_of v).directory.joined head.sender h && (state_of v).directory.known object h) (said_messages head (Some (content.Removal object))) []
+removal_to v head object h = removal_at head object (is_other (state_of v).directory.joined head.sender h) ((state_of v).directory.known object h)
 
-  pub removal_first : (h : ℕ) → cond (ltb h 1) (message_to (state_of v).directory head (ADeletion object) h) [] ≡ []
-  removal_first zero = let nobody : is_other (state_of v).directory.joined head.sender 0 ≡ false = and-false (not (eqb head.sender 0)) in rw nobody (cond-same (ltb 0 1) [])
-  removal_first (suc k) = let past : ltb (suc k) 1 ≡ false = grind (arith, nat_tests) in rw past refl
+-- what is said to those below a number, from nobody to all
+module _ (v : FederationValue) (head : Heading) (body : Body) where
+  pub said_first : (h : ℕ) → cond (ltb h 1) (message_to (state_of v).directory head body h) [] ≡ []
+  said_first zero = let nobody : is_other (state_of v).directory.joined head.sender 0 ≡ false = and-false (not (eqb head.sender 0)) in rw nobody (cond-same (ltb 0 1) [])
+  said_first (suc k) = let past : ltb (suc k) 1 ≡ false = grind (arith, nat_tests) in rw past refl
 
-  pub removal_last : (end h : ℕ) → length v.members + 1 ≤ end
-      → cond (ltb h end) (message_to (state_of v).directory head (ADeletion object) h) [] ≡ message_to (state_of v).directory head (ADeletion object) h
-  removal_last end h all = ⊎_elim
+  pub said_last : (end h : ℕ) → length v.members + 1 ≤ end
+      → cond (ltb h end) (message_to (state_of v).directory head body h) [] ≡ message_to (state_of v).directory head body h
+  said_last end h all = ⊎_elim
       (λ (y : (members_of v.members).joined h ≡ true). let b = joined_within v.members h y in let below : h < end = omega (arith, b, all) in let now : ltb h end ≡ true = grind (arith, nat_tests) in rw now refl)
       (λ (n : (members_of v.members).joined h ≡ false). rw (n, and-false (not (eqb head.sender h))) (cond-same (ltb h end) []))
       (cases_Bool ((members_of v.members).joined h))

@@ -20,12 +20,10 @@ use Rattle.hla_base.specs.FederateSets.{federate_set}
 use Rattle.hla_machine.specs.Directory.{Directory, Outgoing, AnUpdate, put_pair, put_pairs, by_handle, is_of_order, is_receiver, part_sent, values_of_order, update_sent, order_of_attribute}
 use Rattle.hla_members.specs.declared.note.Note.{Note}
 use Rattle.hla_members.specs.Noting.{IsUnsentFrom, with_noted, handle_noted}
-use Rattle.hla_execution.specs.MemberValue.{item}
-use Rattle.hla_members.specs.Members.{AreQuiet}
-use Rattle.hla_federation.specs.Steps.Sending.{HasAdded, heading_of, message_to, messages_to, note_under, part_to}
+use Rattle.hla_federation.specs.Steps.Sending.{heading_of, message_to, messages_to, note_under, part_to}
 use Rattle.hla_federation.proofs.Steps.SendingAll.{sent_events}
 use Rattle.hla_federation.proofs.Steps.Noting.{parts_noted, parts_handle}
-use Rattle.hla_federation.proofs.Steps.Sent.{two_added}
+use Rattle.hla_federation.proofs.Steps.Sent.{two_said}
 
 -- ---- a test of handles holds of some value by handle where it does of some value
 module _ (asked : ℕ → Bool) where
@@ -155,15 +153,13 @@ module _ (d : Directory) (f n m : ℕ) (r : TimeRow) (stamp : Option ℕ) (objec
       let second : more ≡ length second_part = two ∙ ap (λ (vs : List HandleValuePair). length (part_sent Receive object vs)) is_ordered ∙ part_length Receive Timestamp object (values_of_order d object Timestamp (by_handle values)) in
       sum_is count more (length first_part) (length second_part) one_is second ∙ sym (length-append first_part second_part)
 
-  pub parts_added : (old middle new : List (List Message)) → AreQuiet old → HasAdded (part_to d (heading_of f n r stamp Receive) object received) old middle
-      → HasAdded (part_to d (heading_of f (n + count) r stamp Timestamp) object ordered) middle new → (h : ℕ) → item [] new h ≡ messages_to d f m r stamp (update_sent d object values) h
-  parts_added old middle new quiet first second =
-      two_added d f n m (n + count) r stamp first_part second_part old middle new quiet
-      (λ h. first h ∙ ap (λ (vs : List HandleValuePair). item [] old h ++ part_to d (heading_of f n r stamp Receive) object vs h) is_received
-      ∙ ap (λ (ms : List Message). item [] old h ++ ms) (part_messages Receive d f n r stamp object (values_of_order d object Receive (by_handle values)) h))
-      (λ h. second h ∙ ap (λ (vs : List HandleValuePair). item [] middle h ++ part_to d (heading_of f (n + count) r stamp Timestamp) object vs h) is_ordered
-      ∙ ap (λ (ms : List Message). item [] middle h ++ ms) (part_messages Timestamp d f (n + count) r stamp object (values_of_order d object Timestamp (by_handle values)) h))
-      same (ap (λ (k : ℕ). n + k) one_is)
+  pub parts_said : (h : ℕ) → part_to d (heading_of f n r stamp Receive) object received h ++ part_to d (heading_of f (n + count) r stamp Timestamp) object ordered h
+      ≡ messages_to d f m r stamp (update_sent d object values) h
+  parts_said h =
+      (λ i. part_to d (heading_of f n r stamp Receive) object (is_received i) h ++ part_to d (heading_of f (n + count) r stamp Timestamp) object (is_ordered i) h)
+      ∙ (λ i. part_messages Receive d f n r stamp object (values_of_order d object Receive (by_handle values)) h i
+      ++ part_messages Timestamp d f (n + count) r stamp object (values_of_order d object Timestamp (by_handle values)) h i)
+      ∙ two_said d f n m (n + count) r stamp first_part second_part h same (ap (λ (k : ℕ). n + k) one_is)
 
   -- what is noted of it, and its handle
   module _ (told : Option (List Bool)) (two : one_if (is_some told) ≡ length (part_sent Receive object ordered)) where

@@ -20,7 +20,10 @@ use Rattle.hla_machine.specs.Refusals.{is_bad_stamp}
 use Rattle.hla_machine.specs.Sends.{is_told}
 use Rattle.hla_federation.specs.declared.heading.Heading.{Heading}
 use Rattle.hla_members.specs.declared.note.Note.{Note}
-use Rattle.hla_execution.specs.MemberValue.{item}
+use Rattle.hla_base.specs.FederateSets.{federate_set}
+use Rattle.hla_execution.specs.MemberValue.{item, MemberValue, members_of}
+use Rattle.hla_members.specs.Putting.{taken_back, wires_with}
+use Rattle.hla_federation.specs.FederationValue.{FederationValue}
 
 -- the stamp with which a message goes in time-stamp order: its order says so, its sender regulates and gave one
 abbrev pub order_stamp : TimeRow → Order → Option ℕ → Option ℕ
@@ -71,6 +74,19 @@ handle_under head = option_map (λ (t : ℕ). record { sender = head.sender; ser
 -- an outbox that has had messages added, by receiver
 abbrev pub HasAdded : (ℕ → List Message) → List (List Message) → List (List Message) → Type 0
 HasAdded added old new = (h : ℕ) → item [] new h ≡ item [] old h ++ added h
+
+-- a federation whose wires from f have these messages behind the others
+abbrev pub HasSent : ℕ → (ℕ → List Message) → FederationValue → FederationValue → Type 0
+HasSent f messages old new = (new ≡ record old { members = new.members }) × (members_of new.members ≡ record (members_of old.members) { wire = wires_with f messages (members_of old.members).wire })
+
+-- what is taken back of a part of an update from f, by who was told it, if there is such a part
+abbrev pub part_taken_back : ℕ → Option (List Bool) → List MemberValue → List MemberValue
+part_taken_back f None members = members
+part_taken_back f (Some told) members = taken_back f (federate_set told) members
+
+-- the message to one receiver
+abbrev pub only_to : ℕ → (ℕ → List Message) → ℕ → List Message
+only_to peer messages h = cond (eqb peer h) (messages peer) []
 
 -- the messages that are made for receivers
 abbrev pub messages_among : (Receiver → List Message) → List Receiver → ℕ → List Message

@@ -9,14 +9,14 @@ use Rattle.hla_federation.specs.FederationValue.{FederationValue}
 use Rattle.hla_execution.specs.MemberValue.{item}
 use Rattle.hla_federation.specs.Steps.Sending.{said_messages, message_to}
 use Rattle.hla_federation.specs.Steps.State.{state_of}
-use Rattle.hla_federation.proofs.Steps.Addressing.{added_more, added_at, added_none, removal_to, removal_first, removal_last}
+use Rattle.hla_federation.proofs.Steps.Addressing.{added_more, added_at, added_none, removal_to, said_first, said_last}
 use Rattle.hla_federation.proofs.parts.Parts.address_removal.Goals as goal
 use Rattle.hla_federation.proofs.parts.Parts.address_removal.Goals.{then-receives_removal+in_ok-share+in_ok-put, else-receives_removal}
 
 pub loop-peer-init : goal.loop-peer-init
 loop-peer-init c = λ h.
     let o = item [] c.args.outbox.now h in
-    sym (append-nil o) ∙ ap (λ (ms : List Message). o ++ ms) (sym (removal_first c.args.self.now c.args.heading c.args.object h))
+    sym (append-nil o) ∙ ap (λ (ms : List Message). o ++ ms) (sym (said_first c.args.self.now c.args.heading (ADeletion c.args.object) h))
 
 pub loop-peer-preserved : goal.loop-peer-preserved
 loop-peer-preserved c = λ h.
@@ -42,4 +42,4 @@ pub returns-clause-ok : goal.returns-clause-ok
 returns-clause-ok c = λ h.
     let same = ap (λ (v : FederationValue). length v.members) c.self.view_is in
     c.loop-peer.invariant h
-    ∙ ap (λ (ms : List Message). item [] c.args.outbox.now h ++ ms) (removal_last c.args.self.now c.args.heading c.args.object c.loop-peer.peer h (omega (arith, same)))
+    ∙ ap (λ (ms : List Message). item [] c.args.outbox.now h ++ ms) (said_last c.args.self.now c.args.heading (ADeletion c.args.object) c.loop-peer.peer h (omega (arith, same)))
