@@ -165,6 +165,7 @@ impl Member {
     }
 
     /// Puts a message on the wire from a federate. It takes no memory.
+    #[inline(always)]
     pub fn put(&mut self, from: FederateNo, message: Message)
         requires some { 0 < from }
         requires within { from ≤ max_joins }

@@ -106,6 +106,7 @@ impl Wire {
 
     /// Puts a message on the wire, behind the others. A null message takes the place of the one before it, where that is a
     /// null message of its epoch: its sender has promised more since, and no room is needed. It takes no memory.
+    #[inline(always)]
     pub fn put(&mut self, message: Message)
         requires { takes_room message self.old.messages ≡ true → 0 < self.old.room }
         ensures messages { self.new.messages ≡ put_behind message self.old.messages }

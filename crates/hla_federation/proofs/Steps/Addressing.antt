@@ -1,30 +1,26 @@
 -- What is put into an outbox for each receiver is what the service sends to it
-use Rattle.std.specs.Prelude.{find, is_some}
-use Rattle.std.proofs.Common.{◌≡◌, ◌≢◌, ℕ, zero, suc, ◌+◌, ◌<◌, ◌≤◌, List, [], ◌∷◌, ◌++◌, length, get_or, take, filter, cond, eqb, ltb, not, ◌&&◌, true, false, Bool, Option, None, Some, option_map, refl, sym, ap, ◌∙◌, arith, ⊎_elim, drop}
-use Rattle.std.specs.List.{filter_map, cons_option}
-use Rattle.std.specs.Option.{option_map_or, option_and_then}
+use Rattle.std.specs.Prelude.{find}
+use Rattle.std.proofs.Common.{◌≡◌, ◌≢◌, ℕ, zero, suc, ◌+◌, ◌<◌, ◌≤◌, List, [], ◌∷◌, ◌++◌, length, get_or, filter, cond, eqb, ltb, not, ◌&&◌, true, false, Bool, Option, None, Some, option_map, refl, sym, ap, ◌∙◌, arith, ⊎_elim, drop}
+use Rattle.std.specs.Option.{option_and_then}
 use Rattle.std.proofs.Math.Bool.{and-false}
 use Rattle.std.proofs.lemmas.Bool.{cases_Bool}
 use Rattle.std.proofs.lemmas.Bool.Decides.{nat_tests}
-use Rattle.std.proofs.lemmas.List.{append-nil, append_assoc, take_more, get_or_past, at_drop_more}
-use Rattle.std.proofs.lemmas.List.Elements.{filter_map-append}
+use Rattle.std.proofs.lemmas.List.{append-nil, append_assoc, get_or_past, at_drop_more}
 use Rattle.hla_base.specs.declared.content.Content.{Content}
 use Rattle.hla_base.specs.declared.content.Content.TheVariants as content
 use Rattle.hla_base.specs.declared.content.HandleValuePair.{HandleValuePair}
-use Rattle.hla_base.specs.Tables.{numbers_below, when, is_other, upd}
+use Rattle.hla_base.specs.Tables.{when, is_other, upd}
 use Rattle.hla_catalogue.specs.CatalogueValue.{CatalogueValue}
-use Rattle.hla_catalogue.specs.Lookup.{has_parameter, object_lineage, interaction_lineage}
-use Rattle.hla_declaration.specs.Declarations as declared
-use Rattle.hla_declaration.specs.Receivers.{receivers_of, object_class_served, interaction_class_served}
+use Rattle.hla_catalogue.specs.Lookup.{has_parameter}
 use Rattle.hla_declaration.specs.declared.receiver.Receiver.{Receiver}
 use Rattle.hla_null_message.specs.declared.message.Message.{Message}
-use Rattle.hla_machine.specs.Directory.{Directory, Body, AnInteraction, AnUpdate, ADeletion, reflection_of, subscribed_values}
+use Rattle.hla_machine.specs.Directory.{Directory, Body, ADeletion, reflection_of, subscribed_values}
 use Rattle.hla_federation.specs.declared.heading.Heading.{Heading}
 use Rattle.hla_federation.specs.FederationValue.{FederationValue}
 use Rattle.hla_execution.specs.MemberValue.{item, MemberValue, no_member, members_of}
 use Rattle.hla_members.specs.Members.{is_number}
 use Rattle.hla_federation.specs.Steps.Sending.{HasAdded, said_messages, message_to, messages_among, null_to}
-use Rattle.hla_federation.specs.Steps.State.{state_of, IsWhole}
+use Rattle.hla_federation.specs.Steps.State.{state_of}
 use Rattle.hla_base.proofs.Tables.{upd_same, upd_other}
 
 -- ---- Messages that are made for receivers, one by one
@@ -48,88 +44,6 @@ put_more o new rs i d made ms below is same h =
 cond-same : {X : Type 0} (b : Bool) (x : X) → cond b x x ≡ x
 cond-same true x = refl
 cond-same false x = refl
-
-module _ (made : Receiver → List Message) (h : ℕ) where
-  among-append : (rs qs : List Receiver) → messages_among made (rs ++ qs) h ≡ messages_among made rs h ++ messages_among made qs h
-  among-append [] qs = refl
-  among-append (r ∷ rs) qs = rw (among-append rs qs) (sym (append_assoc (cond (eqb r.federate h) (made r) []) (messages_among made rs h) (messages_among made qs h)))
-
-  -- one more receiver
-  pub among-more : (rs : List Receiver) (i : ℕ) (none : Receiver) → i < length rs
-      → messages_among made (take (i + 1) rs) h ≡ messages_among made (take i rs) h ++ cond (eqb (get_or rs i none).federate h) (made (get_or rs i none)) []
-  among-more rs i none b =
-      ap (λ (qs : List Receiver). messages_among made qs h) (take_more rs i none b)
-      ∙ among-append (take i rs) (get_or rs i none ∷ [])
-      ∙ ap (λ (ms : List Message). messages_among made (take i rs) h ++ ms) (append-nil (cond (eqb (get_or rs i none).federate h) (made (get_or rs i none)) []))
-
-  -- one for whom nothing is made
-  pub among-none : (rs : List Receiver) (i : ℕ) (none : Receiver) → i < length rs → made (get_or rs i none) ≡ [] → messages_among made (take (i + 1) rs) h ≡ messages_among made (take i rs) h
-  among-none rs i none b is =
-      among-more rs i none b
-      ∙ ap (λ (ms : List Message). messages_among made (take i rs) h ++ cond (eqb (get_or rs i none).federate h) ms []) is
-      ∙ ap (λ (ms : List Message). messages_among made (take i rs) h ++ ms) (cond-same (eqb (get_or rs i none).federate h) [])
-      ∙ append-nil (messages_among made (take i rs) h)
-
-  module _ (served : ℕ → Option ℕ) (sender : ℕ) where
-    -- a federate as a receiver, where it is served and is not the sender
-    abbrev receiver_at : ℕ → Option Receiver
-    receiver_at g = when (not (eqb sender g)) (option_map (λ k. record { federate = g; class = k }) (served g))
-
-    abbrev made_for : ℕ → List Message
-    made_for g = option_map_or (λ k. made (record { federate = g; class = k })) (served g) []
-
-    only : (g : ℕ) (b : Bool) (o : Option ℕ) → messages_among made (cons_option (when b (option_map (λ k. record { federate = g; class = k }) o)) []) h
-        ≡ cond (eqb g h) (cond b (option_map_or (λ k. made (record { federate = g; class = k })) o []) []) []
-    only g true (Some k) = append-nil (cond (eqb g h) (made (record { federate = g; class = k })) [])
-    only g true None = sym (cond-same (eqb g h) [])
-    only g false o = sym (cond-same (eqb g h) [])
-
-    joins : (b : Bool) (ms : List Message) → cond (b && false) ms [] ++ cond b ms [] ≡ cond (b && true) ms []
-    joins true ms = refl
-    joins false ms = refl
-
-    among_below : (m : ℕ) → messages_among made (filter_map receiver_at (numbers_below m)) h ≡ cond (not (eqb sender h) && ltb h m) (made_for h) []
-    unfolding numbers_below
-    among_below zero = let past : ltb h 0 ≡ false = grind (arith, nat_tests) in rw (past, and-false (not (eqb sender h))) refl
-    among_below (suc m) =
-        ap (λ (rs : List Receiver). messages_among made rs h) (filter_map-append receiver_at (numbers_below m) (m ∷ []))
-        ∙ among-append (filter_map receiver_at (numbers_below m)) (cons_option (receiver_at m) [])
-        ∙ rw (among_below m, only m (not (eqb sender m)) (served m)) (⊎_elim
-        (λ (y : eqb m h ≡ true).
-        let e : m ≡ h = grind (arith, nat_tests) in
-        let here : eqb h h ≡ true = grind (arith, nat_tests) in
-        let before : ltb h h ≡ false = grind (arith, nat_tests) in
-        let now : ltb h (suc h) ≡ true = grind (arith, nat_tests) in
-        rw (e, here, before, now) (joins (not (eqb sender h)) (made_for h)))
-        (λ (n : eqb m h ≡ false).
-        let same : ltb h (suc m) ≡ ltb h m = grind (arith, nat_tests) in
-        rw (n, same) (append-nil (cond (not (eqb sender h) && ltb h m) (made_for h) [])))
-        (cases_Bool (eqb m h)))
-
-    pub among_receivers : (n : ℕ) → messages_among made (receivers_of served n sender) h
-        ≡ cond (not (eqb sender h) && ltb h (n + 1)) (option_map_or (λ k. made (record { federate = h; class = k })) (served h) []) []
-    among_receivers n = among_below (n + 1)
-
-pub said_each : (head : Heading) (said_at : ℕ → Option Content) (o : Option ℕ) → option_map_or (λ k. said_messages head (said_at k)) o [] ≡ said_messages head (option_and_then said_at o)
-said_each head said_at None = refl
-said_each head said_at (Some k) = refl
-
--- where who is not joined is not served, this goes to each other joined federate
-pub among_joined : (joined : ℕ → Bool) (served : ℕ → Option ℕ) (said_at : ℕ → ℕ → Option Content) (n : ℕ) (head : Heading) (h : ℕ)
-    → (joined h ≡ true → h < n + 1) → (joined h ≡ false → served h ≡ None)
-    → messages_among (λ r. said_messages head (said_at r.federate r.class)) (receivers_of served n head.sender) h
-    ≡ cond (is_other joined head.sender h) (said_messages head (option_and_then (said_at h) (served h))) []
-among_joined joined served said_at n head h within silent =
-    among_receivers (λ r. said_messages head (said_at r.federate r.class)) h served head.sender n
-    ∙ ⊎_elim
-    (λ (y : joined h ≡ true).
-    let b : h < n + 1 = within y in
-    let now : ltb h (n + 1) ≡ true = grind (arith, nat_tests) in
-    rw (now, y, said_each head (said_at h) (served h)) refl)
-    (λ (no : joined h ≡ false).
-    let nobody = silent no in
-    rw (no, nobody, and-false (not (eqb head.sender h))) (cond-same (not (eqb head.sender h) && ltb h (n + 1)) []))
-    (cases_Bool (joined h))
 
 -- ---- who is joined has a number, and who is not is served nothing
 pub joined_number : (ms : List MemberValue) (h : ℕ) → (item no_member ms h).joined ≡ true → is_number (length ms + 1) h ≡ true
@@ -171,36 +85,6 @@ reflection_at d object values h k = reflection_of object (subscribed_values d h 
 pub map_then : {X Y : Type 0} (f : X → Y) (o : Option X) → option_and_then (λ x. Some (f x)) o ≡ option_map f o
 map_then f None = refl
 map_then f (Some x) = refl
-
-module _ (v : FederationValue) (whole : IsWhole v) (head : Heading) (class : ℕ) (values : List HandleValuePair) (h : ℕ) where
-  joined_below : (members_of v.members).joined h ≡ true → h < (declared.declarations_of v.declarations).federates + 1
-  joined_below y = let b = joined_within v.members h y in let same = whole.parts.federates in omega (arith, b, same)
-
-  pub interaction_added : messages_among (λ r. said_messages head (interaction_at v.catalogue values r.federate r.class))
-      (receivers_of (λ g. interaction_class_served v.catalogue (declared.declarations_of v.declarations).subscribed_interaction g class) (declared.declarations_of v.declarations).federates head.sender) h
-      ≡ message_to (state_of v).directory head (AnInteraction class values) h
-  interaction_added =
-      among_joined (members_of v.members).joined (λ g. interaction_class_served v.catalogue (declared.declarations_of v.declarations).subscribed_interaction g class) (interaction_at v.catalogue values)
-      (declared.declarations_of v.declarations).federates head h joined_below
-      (λ no. find_none (λ k. (declared.declarations_of v.declarations).subscribed_interaction h k) (interaction_lineage v.catalogue class) (λ k. (whole.parts.silent h k no).interactions))
-      ∙ ap (λ (x : Option Content). cond (is_other (members_of v.members).joined head.sender h) (said_messages head x) [])
-      (map_then (λ k. content.Interaction k (filter (λ (p : HandleValuePair). has_parameter v.catalogue k p.handle) values)) (interaction_class_served v.catalogue (declared.declarations_of v.declarations).subscribed_interaction h class))
-
-  pub update_added : (object : ℕ) → ((state_of v).directory.object object).class ≡ class
-      → messages_among (λ r. said_messages head (reflection_at (state_of v).directory object values r.federate r.class))
-      (receivers_of (λ g. object_class_served v.catalogue (declared.declarations_of v.declarations).subscribed g class) (declared.declarations_of v.declarations).federates head.sender) h
-      ≡ message_to (state_of v).directory head (AnUpdate object values) h
-  update_added object is =
-      among_joined (members_of v.members).joined (λ g. object_class_served v.catalogue (declared.declarations_of v.declarations).subscribed g class) (reflection_at (state_of v).directory object values)
-      (declared.declarations_of v.declarations).federates head h joined_below
-      (λ no. find_none (λ k. is_some ((declared.declarations_of v.declarations).subscribed h k)) (object_lineage v.catalogue class) (λ k. ap (λ (o : Option (List ℕ)). is_some o) (whole.parts.silent h k no).objects))
-      ∙ at_class
-    where
-      at_class : cond (is_other (members_of v.members).joined head.sender h)
-          (said_messages head (option_and_then (reflection_at (state_of v).directory object values h) (object_class_served v.catalogue (declared.declarations_of v.declarations).subscribed h class))) []
-          ≡ message_to (state_of v).directory head (AnUpdate object values) h
-      at_class = ap (λ (k : ℕ). cond (is_other (members_of v.members).joined head.sender h)
-          (said_messages head (option_and_then (reflection_at (state_of v).directory object values h) (object_class_served v.catalogue (declared.declarations_of v.declarations).subscribed h k))) []) (sym is)
 
 -- a reflection says something where there are values
 pub reflection_some : (object : ℕ) (values : List HandleValuePair) → length values ≢ 0 → reflection_of object values ≡ Some (content.Reflection object values)

@@ -10,7 +10,6 @@ use Rattle.hla_base.specs.declared.content.Content.{Content}
 use Rattle.hla_base.specs.declared.content.Content.TheVariants as content
 use Rattle.hla_base.specs.declared.content.Event.{Event}
 use Rattle.hla_base.specs.declared.content.HandleValuePair.{HandleValuePair}
-use Rattle.hla_base.specs.declared.row.TimeRow.{TimeRow}
 use Rattle.hla_base.specs.Tables.{upd, upd2, is_other, when}
 use Rattle.hla_catalogue.specs.Lookup.{has_parameter, object_lineage, interaction_lineage}
 use Rattle.hla_declaration.specs.Declarations as declared
@@ -19,15 +18,14 @@ use Rattle.hla_null_message.specs.declared.message.Message.TheVariants as messag
 use Rattle.hla_machine.specs.Directory.{Directory, Body, AnInteraction, AnUpdate, default_name, is_receiver, served_interaction, served_object}
 use Rattle.hla_machine.specs.Registered.{registry_of}
 use Rattle.hla_synchronization.specs.OpenPoints.{points_of}
-use Rattle.hla_members.specs.Putting.{taken_back, wires_with}
+use Rattle.hla_members.specs.Putting.{wires_with}
 use Rattle.hla_members.proofs.MemberTables.{upd-self}
 use Rattle.hla_execution.specs.MemberValue.{MemberValue, MemberTables, members_of}
 use Rattle.hla_federation.specs.FederationValue.{FederationValue}
 use Rattle.hla_federation.specs.declared.heading.Heading.{Heading}
 use Rattle.hla_federation.specs.Steps.Sending.{HasSent, message_to, only_to, said_messages}
-use Rattle.hla_federation.specs.Steps.State.{AreWhole, IsWhole, directory_from, state_of, state_from}
-use Rattle.hla_federation.proofs.Steps.Addressing.{added_at, find_none, interaction_at, joined_within, map_then, reflection_at, said_first, said_last, said_each}
-use Rattle.hla_federation.proofs.Steps.Receiving.{has_message, told_are}
+use Rattle.hla_federation.specs.Steps.State.{AreWhole, IsWhole, directory_from, state_of}
+use Rattle.hla_federation.proofs.Steps.Addressing.{added_at, find_none, interaction_at, joined_within, map_then, reflection_at, said_first, said_last}
 
 -- ---- wires with messages behind the others
 module _ (f : ℕ) (wire : ℕ → ℕ → List Message) where

@@ -1,9 +1,7 @@
 -- To whom a message was put into an outbox
-use Rattle.std.proofs.Common.{◌≡◌, ℕ, List, [], ◌∷◌, ◌++◌, cond, eqb, ◌&&◌, Bool, true, false, Option, None, Some, is_some, refl, sym, ap, ◌∙◌, ⊎_elim}
-use Rattle.std.proofs.lemmas.Bool.{cases_Bool}
-use Rattle.std.proofs.lemmas.List.{append-nil}
+use Rattle.std.proofs.Common.{◌≡◌, ℕ, List, [], ◌∷◌, cond, ◌&&◌, Bool, true, false, Option, None, Some, is_some, refl}
 use Rattle.hla_base.specs.declared.content.Content.{Content}
-use Rattle.hla_base.specs.Tables.{upd, is_other}
+use Rattle.hla_base.specs.Tables.{is_other}
 use Rattle.hla_null_message.specs.declared.message.Message.{Message}
 use Rattle.hla_machine.specs.Directory.{Directory, Body, content_for, is_receiver}
 use Rattle.hla_federation.specs.declared.heading.Heading.{Heading}
@@ -12,19 +10,6 @@ use Rattle.hla_federation.specs.Steps.Sending.{said_messages, message_to}
 abbrev pub has_message : List Message → Bool
 has_message [] = false
 has_message (m ∷ ms) = true
-
-has-append : (ms : List Message) (m : Message) → has_message (ms ++ m ∷ []) ≡ true
-has-append [] m = refl
-has-append (x ∷ ms) m = refl
-
--- one more message for p, and p among the receivers
-pub told_more : (told : ℕ → Bool) (added : ℕ → List Message) (p : ℕ) (m : Message) → ((g : ℕ) → told g ≡ has_message (added g))
-    → (g : ℕ) → upd told p true g ≡ has_message (added g ++ cond (eqb p g) (m ∷ []) [])
-unfolding upd
-told_more told added p m before g = ⊎_elim
-    (λ (y : eqb p g ≡ true). rw y (sym (has-append (added g) m)))
-    (λ (n : eqb p g ≡ false). rw n (before g ∙ ap has_message (sym (append-nil (added g)))))
-    (cases_Bool (eqb p g))
 
 -- the receivers are those who are told
 pub told_are : (d : Directory) (head : Heading) (body : Body) (g : ℕ) → has_message (message_to d head body g) ≡ is_receiver d head.sender body g

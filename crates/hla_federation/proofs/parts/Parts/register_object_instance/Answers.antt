@@ -1,6 +1,4 @@
-use Rattle.hla_base.specs.Limits.{max_objects}
-use Rattle.std.proofs.Common.{◌≡◌, ◌<◌, ◌≤◌, ◌+◌, ◌++◌, ℕ, zero, suc, List, [], Option, None, Some, unwrap_or, length, true, false, ltb, refl, sym, ap, subst, ◌∙◌, arith}
-use Rattle.std.proofs.lemmas.Bool.Decides.{nat_tests}
+use Rattle.std.proofs.Common.{◌≡◌, ◌<◌, ◌+◌, ◌++◌, ℕ, zero, suc, List, [], Option, None, Some, unwrap_or, length, true, false, refl, sym, ap, subst, ◌∙◌, arith}
 use Rattle.hla_declaration.specs.Declarations as declared
 use Rattle.hla_machine.specs.declared.service.Service.TheVariants as service
 use Rattle.hla_machine.specs.declared.step.Step.TheVariants as step
@@ -19,7 +17,7 @@ use Rattle.hla_components.specs.Components.{Components}
 use Rattle.hla_components.specs.Next.{components_seen, answer_outcome, with_object_registered}
 use Rattle.hla_federation.proofs.Steps.Doing.{does_next}
 use Rattle.hla_federation.specs.Steps.State.{state_of, state_from, IsWhole}
-use Rattle.hla_federation.proofs.Steps.NewObjects.{federates_all, joined_some, or_first, registered_whole}
+use Rattle.hla_federation.proofs.Steps.NewObjects.{joined_some, registered_whole}
 use Rattle.hla_declaration.specs.Receivers.{object_class_served, receivers_of}
 use Rattle.std.specs.Option.{option_map_or}
 use Rattle.hla_base.specs.Tables.{upd2}

@@ -1,4 +1,4 @@
-use Rattle.std.proofs.Common.{◌≡◌, ◌+◌, ◌-◌, ◌<◌, ◌≤◌, length, set, true, refl, sym, ap, ◌∙◌, arith}
+use Rattle.std.proofs.Common.{◌-◌, set, true, refl, ap, ◌∙◌, arith}
 use Rattle.hla_base.specs.Tables.{upd}
 use Rattle.hla_execution.specs.MemberValue.{MemberValue, members_of, item, no_member}
 use Rattle.hla_members.specs.Putting.{taken_back}

@@ -1,6 +1,6 @@
-use Rattle.std.proofs.Common.{◌≡◌, List, not, false, ◌++◌, [], ◌∷◌, cond, ap, sym, ◌∙◌}
+use Rattle.std.proofs.Common.{◌≡◌, List, false, ◌++◌, [], ◌∷◌, cond, ap, sym, ◌∙◌}
 use Rattle.hla_null_message.specs.declared.message.Message.{Message}
-use Rattle.hla_null_message.specs.Wires.{WireValue, put_behind, takes_room}
+use Rattle.hla_null_message.specs.Wires.{WireValue, put_behind}
 use Rattle.hla_null_message.proofs.Wires.{put_at_end}
 use Rattle.hla_null_message.proofs.wire.Wire.put.Goals as goal
 
