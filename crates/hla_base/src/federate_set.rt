@@ -9,29 +9,27 @@ use crate::limits::MAX_JOINS;
 use crate::number::FederateNo;
 use std::marker::Model;
 
-/// How many flags there are: one for each number of a federate, which are counted from 1, and one for 0.
-const FLAGS: usize = MAX_JOINS + 1;
-
-/// Federates by their numbers, 1 to 16, each in the set or not. Contracts see a list of flags; `federate_set`
-/// reads it as a set of numbers.
+/// Federates by their numbers, 1 to 16, each in the set or not. Contracts see a number whose bits are the federates';
+/// `federate_set` reads it as a set of numbers.
 ///
-/// Nothing here takes memory.
+/// It takes four bytes, as one is kept of each message that may be retracted. Nothing here takes memory.
 #[derive(Clone, Copy, Debug, PartialEq, Eq)]
 pub struct FederateSet {
-    flags: [bool; FLAGS],
+    /// A bit for each federate, at its number.
+    bits: u32,
 }
 
 impl Model for FederateSet {
-    ghost use Rattle.std.specs.Prelude.{List, Bool};
-    ghost use Rattle.hla_base.specs.FederateSets.{AreFlags};
+    ghost use Rattle.std.specs.Prelude.{ℕ};
+    ghost use Rattle.hla_base.specs.FederateSets.{AreFederateBits};
 
-    ghost Value = { List Bool };
+    ghost Value = { ℕ };
 
-    ghost view = { λ r. r.flags };
+    ghost view = { λ r. r.bits };
 
-    ghost invariant = { λ r. AreFlags r.flags };
+    ghost invariant = { λ r. AreFederateBits r.bits };
 
-    ghost inverse = { λ flags. record { flags = flags } };
+    ghost inverse = { λ bits. record { bits = bits } };
 }
 
 impl FederateSet {
@@ -39,9 +37,7 @@ impl FederateSet {
     pub fn new() -> FederateSet
         ensures { federate_set result ≡ (λ _. false) }
     {
-        FederateSet {
-            flags: [false; FLAGS],
-        }
+        FederateSet { bits: 0 }
     }
 
     /// A federate is in the set from now on, and the others are as before.
@@ -50,7 +46,7 @@ impl FederateSet {
         requires within { federate ≤ max_joins }
         ensures { federate_set self.new ≡ upd (federate_set self.old) federate true }
     {
-        self.flags[federate as usize] = true;
+        self.bits |= 1 << federate;
     }
 
     /// Whether a federate is in the set. No number but 1 to 16 is.
@@ -59,6 +55,6 @@ impl FederateSet {
         ensures some { IsTrue result → 0 < federate }
         ensures within { IsTrue result → federate ≤ max_joins }
     {
-        self.flags.get(federate as usize).copied().unwrap_or(false)
+        federate as usize <= MAX_JOINS && (self.bits >> federate) & 1 == 1
     }
 }

@@ -15,7 +15,7 @@ sent_of (row ∷ rows) serial = cond (eqb row.serial serial) (row_event row) (se
 
 -- stands past the last row, where lists are read by place
 abbrev pub no_row : SentRow
-no_row = record { serial = 0; stamp = 0; retracted = false; receivers = [] }
+no_row = record { serial = 0; stamp = 0; retracted = false; receivers = 0 }
 
 -- the serial of the row at place i, counted from 0
 abbrev pub serial_at : List SentRow → ℕ → ℕ

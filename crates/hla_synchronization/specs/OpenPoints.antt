@@ -14,5 +14,5 @@ abbrev pub points_of : List OpenPoint → List Point
 points_of points = map point_of points
 
 -- the federates of a set, by rising number
-abbrev pub members_in : List Bool → List ℕ
-members_in flags = filter (federate_set flags) (numbers_below (max_joins + 1))
+abbrev pub members_in : ℕ → List ℕ
+members_in set = filter (federate_set set) (numbers_below (max_joins + 1))

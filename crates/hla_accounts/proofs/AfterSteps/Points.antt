@@ -36,8 +36,8 @@ filtered_below members n (suc k) none =
     ∙ append-nil (filter members (numbers_below (n + k)))
     ∙ filtered_below members n k none
 
-pub members_joined : (d : Directory) (accounts : List Account) (flags : List Bool) → length accounts ≤ max_joins → federate_set flags ≡ (λ f. (account_at accounts f).is_joined) → members_in flags ≡ joined_federates (central_with d accounts).directory
-members_joined d accounts flags few is =
+pub members_joined : (d : Directory) (accounts : List Account) (set : ℕ) → length accounts ≤ max_joins → federate_set set ≡ (λ f. (account_at accounts f).is_joined) → members_in set ≡ joined_federates (central_with d accounts).directory
+members_joined d accounts set few is =
     let n = length accounts + 1 in
     let k = max_joins + 1 - n in
     let all : max_joins + 1 ≡ n + k = omega arith in

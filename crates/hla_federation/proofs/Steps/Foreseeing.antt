@@ -72,8 +72,8 @@ has_of d object order values = list_any (λ (v : HandleValuePair). is_of_order o
 part_count : (d : Directory) (made order : Order) (object : ℕ) (values : List HandleValuePair) → length (part_sent made object (values_of_order d object order (by_handle values))) ≡ cond (has_of d object order values) 1 0
 part_count d made order object values = length-part made object (λ v. is_of_order order (order_of_attribute d object v.handle)) (by_handle values) ∙ ap (λ (b : Bool). cond b 1 0) (any-by_handle (λ h. is_of_order order (order_of_attribute d object h)) values)
 
-abbrev told_of : Bool → Option (List Bool)
-told_of b = cond b (Some []) None
+abbrev told_of : Bool → Option ℕ
+told_of b = cond b (Some 0) None
 
 told_one : (b : Bool) → one_if (is_some (told_of b)) ≡ cond b 1 0
 told_one true = refl

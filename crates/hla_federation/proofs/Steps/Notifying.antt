@@ -130,7 +130,7 @@ members_listed joined n (suc k) below away = ⊎_elim
     (λ (ne : n ≢ suc k). let within : n ≤ k = omega (arith, ne) in filter-append joined (numbers_below k) (k ∷ []) ∙ rw (away k within) (append-nil (filter joined (numbers_below k)) ∙ members_listed joined n k within away))
     (cases_eq n (suc k))
 
-pub members_are : (c : CatalogueValue) (points : List Point) (d : DeclarationsValue) (r : RegistryValue) (m : MemberTables) (set : List Bool) → m.next_federate ≤ max_joins + 1 → ((g : ℕ) → m.next_federate ≤ g → m.joined g ≡ false)
+pub members_are : (c : CatalogueValue) (points : List Point) (d : DeclarationsValue) (r : RegistryValue) (m : MemberTables) (set : ℕ) → m.next_federate ≤ max_joins + 1 → ((g : ℕ) → m.next_federate ≤ g → m.joined g ≡ false)
     → federate_set set ≡ m.joined → members_in set ≡ joined_federates (directory_from c points d r m)
 members_are c points d r m set few away is = ap (λ (j : ℕ → Bool). filter j (numbers_below (max_joins + 1))) is ∙ members_listed m.joined m.next_federate (max_joins + 1) few away
 

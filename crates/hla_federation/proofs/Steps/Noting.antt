@@ -37,7 +37,7 @@ unsent_event (row ∷ rows) m none = ⊎_elim
 pub unsent_from : (v : FederationValue) (f : ℕ) → Inv (state_of v) → IsUnsentFrom ((members_of v.members).sent f) ((members_of v.members).serial f)
 unsent_from v f inv m above = unsent_event (item no_member v.members f).sent m (inv.laws.unsent f m above)
 
-pub note_unsent : (head : Heading) (receivers : List Bool) (sent : ℕ → SentEvent) (first : ℕ) → IsUnsentFrom sent first → first ≤ head.serial
+pub note_unsent : (head : Heading) (receivers : ℕ) (sent : ℕ → SentEvent) (first : ℕ) → IsUnsentFrom sent first → first ≤ head.serial
     → IfSome (note_under head receivers) (λ (n : Note). IsUnsentFrom sent n.serial)
 note_unsent head receivers sent first none above = by_stamp head.stamp
   where
@@ -45,7 +45,7 @@ note_unsent head receivers sent first none above = by_stamp head.stamp
     by_stamp None = tt
     by_stamp (Some t) = λ m beyond. none m (omega (arith, above, beyond))
 
-pub part_unsent : (head : Heading) (told : Option (List Bool)) (sent : ℕ → SentEvent) (first : ℕ) → IsUnsentFrom sent first → first ≤ head.serial
+pub part_unsent : (head : Heading) (told : Option ℕ) (sent : ℕ → SentEvent) (first : ℕ) → IsUnsentFrom sent first → first ≤ head.serial
     → IfSome (option_and_then (λ rs. note_under head rs) told) (λ (n : Note). IsUnsentFrom sent n.serial)
 part_unsent head None sent first none above = tt
 part_unsent head (Some rs) sent first none above = note_unsent head rs sent first none above
@@ -53,7 +53,7 @@ part_unsent head (Some rs) sent first none above = note_unsent head rs sent firs
 -- ---- one message
 module _ (d : Directory) (f m : ℕ) (r : TimeRow) (stamp : Option ℕ) (out : Outgoing) (sent : ℕ → ℕ → SentEvent) (fresh : sent f m ≡ no_event) where
   -- an update or an interaction
-  module _ (rs : List Bool) (told : federate_set rs ≡ is_receiver d f out.body) (kind : is_deletion out.body ≡ false) where
+  module _ (rs : ℕ) (told : federate_set rs ≡ is_receiver d f out.body) (kind : is_deletion out.body ≡ false) where
     pub one_noted : upd2 sent f m (sent_event d r f stamp out) ≡ with_noted sent f (note_under (heading_of f m r stamp out.order) rs)
     one_noted = rw (kind, stamp_is r stamp out, order_is r stamp out) (by_stamp (order_stamp r out.order stamp))
       where
@@ -66,7 +66,7 @@ module _ (d : Directory) (f m : ℕ) (r : TimeRow) (stamp : Option ℕ) (out : O
   pub deletion_noted : is_deletion out.body ≡ true → upd2 sent f m (sent_event d r f stamp out) ≡ sent
   deletion_noted kind = rw (kind, and-false (is_ordered r stamp out)) (upd2-self sent f m no_event (sym fresh))
 
-pub one_handle : (f m : ℕ) (r : TimeRow) (stamp : Option ℕ) (out : Outgoing) (rs : List Bool) → sent_handle f r stamp m (out ∷ []) ≡ handle_noted f (note_under (heading_of f m r stamp out.order) rs)
+pub one_handle : (f m : ℕ) (r : TimeRow) (stamp : Option ℕ) (out : Outgoing) (rs : ℕ) → sent_handle f r stamp m (out ∷ []) ≡ handle_noted f (note_under (heading_of f m r stamp out.order) rs)
 one_handle f m r stamp out rs = rw (order_is r stamp out) (by_stamp (order_stamp r out.order stamp))
   where
     by_stamp : (o : Option ℕ) → or_else (when (is_some o) (Some (record { sender = f; serial = m }))) None ≡ handle_noted f (option_map (λ (t : ℕ). record { serial = m; stamp = t; receivers = rs }) o)
@@ -111,11 +111,11 @@ module _ (d : Directory) (f m : ℕ) (r : TimeRow) (stamp : Option ℕ) (object 
   received_handle [] = refl
   received_handle (v ∷ vs) = refl
 
-  abbrev stamped_note : Option (List Bool) → Option Note
+  abbrev stamped_note : Option ℕ → Option Note
   stamped_note told = option_and_then (λ rs. note_under (heading_of f m r stamp Timestamp) rs) told
 
   -- of the other one, what it says
-  stamped_noted : (values : List HandleValuePair) (told : Option (List Bool)) (sent : ℕ → ℕ → SentEvent) → sent f m ≡ no_event
+  stamped_noted : (values : List HandleValuePair) (told : Option ℕ) (sent : ℕ → ℕ → SentEvent) → sent f m ≡ no_event
       → one_if (is_some told) ≡ length (part_sent Receive object values) → IfSome told (λ rs. federate_set rs ≡ is_receiver d f (AnUpdate object values))
       → sent_events d f m r stamp (part_sent Timestamp object values) sent ≡ with_noted sent f (stamped_note told)
   stamped_noted [] None sent fresh count receivers = refl
@@ -123,14 +123,14 @@ module _ (d : Directory) (f m : ℕ) (r : TimeRow) (stamp : Option ℕ) (object 
   stamped_noted (v ∷ vs) None sent fresh count receivers = absurd (omega (arith, count))
   stamped_noted (v ∷ vs) (Some rs) sent fresh count receivers = one_noted d f m r stamp (record { order = Timestamp; body = AnUpdate object (v ∷ vs) }) sent fresh rs receivers refl
 
-  stamped_handle : (values : List HandleValuePair) (told : Option (List Bool)) → one_if (is_some told) ≡ length (part_sent Receive object values)
+  stamped_handle : (values : List HandleValuePair) (told : Option ℕ) → one_if (is_some told) ≡ length (part_sent Receive object values)
       → sent_handle f r stamp m (part_sent Timestamp object values) ≡ handle_noted f (stamped_note told)
   stamped_handle [] None count = refl
   stamped_handle [] (Some rs) count = absurd (omega (arith, count))
   stamped_handle (v ∷ vs) None count = absurd (omega (arith, count))
   stamped_handle (v ∷ vs) (Some rs) count = one_handle f m r stamp (record { order = Timestamp; body = AnUpdate object (v ∷ vs) }) rs
 
-module _ (d : Directory) (f m next : ℕ) (r : TimeRow) (stamp : Option ℕ) (object : ℕ) (received ordered : List HandleValuePair) (told : Option (List Bool))
+module _ (d : Directory) (f m next : ℕ) (r : TimeRow) (stamp : Option ℕ) (object : ℕ) (received ordered : List HandleValuePair) (told : Option ℕ)
     (is_next : next ≡ m + length (part_sent Receive object received)) (count : one_if (is_some told) ≡ length (part_sent Receive object ordered)) where
   abbrev parts : List Outgoing
   parts = part_sent Receive object received ++ part_sent Timestamp object ordered

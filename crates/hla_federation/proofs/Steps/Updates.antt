@@ -161,7 +161,7 @@ module _ (d : Directory) (f n m : ℕ) (r : TimeRow) (stamp : Option ℕ) (objec
       ∙ two_said d f n m (n + count) r stamp first_part second_part h same (ap (λ (k : ℕ). n + k) one_is)
 
   -- what is noted of it, and its handle
-  module _ (told : Option (List Bool)) (two : one_if (is_some told) ≡ length (part_sent Receive object ordered)) where
+  module _ (told : Option ℕ) (two : one_if (is_some told) ≡ length (part_sent Receive object ordered)) where
     abbrev pub update_note : Option Note
     update_note = option_and_then (λ rs. note_under (heading_of f (n + count) r stamp Timestamp) rs) told
 

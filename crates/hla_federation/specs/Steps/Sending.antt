@@ -64,7 +64,7 @@ abbrev pub TellsBadStamp : TimeRow → Option ℕ → Bool → Bool → Type 0
 TellsBadStamp r stamp is_stamped answer = (outs : List Outgoing) → list_any (λ (out : Outgoing). is_of_order Timestamp out.order) outs ≡ is_stamped → is_bad_stamp r stamp outs ≡ answer
 
 -- what is noted of a message that may be retracted, by its receivers: of one in receive order nothing is
-abbrev pub note_under : Heading → List Bool → Option Note
+abbrev pub note_under : Heading → ℕ → Option Note
 note_under head receivers = option_map (λ (t : ℕ). record { serial = head.serial; stamp = t; receivers = receivers }) head.stamp
 
 -- the handle by which its sender may retract it: one in receive order has none
@@ -80,7 +80,7 @@ abbrev pub HasSent : ℕ → (ℕ → List Message) → FederationValue → Fede
 HasSent f messages old new = (new ≡ record old { members = new.members }) × (members_of new.members ≡ record (members_of old.members) { wire = wires_with f messages (members_of old.members).wire })
 
 -- what is taken back of a part of an update from f, by who was told it, if there is such a part
-abbrev pub part_taken_back : ℕ → Option (List Bool) → List MemberValue → List MemberValue
+abbrev pub part_taken_back : ℕ → Option ℕ → List MemberValue → List MemberValue
 part_taken_back f None members = members
 part_taken_back f (Some told) members = taken_back f (federate_set told) members
 
