@@ -1,13 +1,16 @@
 -- Sets of subscribers after a change
-use Rattle.std.proofs.Common.{◌≡◌, ◌≢◌, ℕ, zero, suc, ◌-◌, ◌<◌, ◌≤◌, ◌&&◌, ◌||◌, List, [], ◌∷◌, ◌++◌, length, get_or, set, eqb, cond, true, false, Bool, Option, None, Some, is_some, refl, sym, ap, ◌∙◌, subst, arith, ⊎_elim}
+use Rattle.std.proofs.Common.{◌≡◌, ◌≢◌, ℕ, zero, suc, ◌-◌, ◌/◌, ◌^◌, ◌==◌, ◌<◌, ◌≤◌, ◌&&◌, ◌||◌, List, [], ◌∷◌, ◌++◌, length, get_or, set, eqb, cond, true, false, Bool, Option, None, Some, is_some, refl, sym, ap, ◌∙◌, subst, arith, ⊎_elim}
 use Rattle.std.specs.Prelude.{find, bit_or}
 use Rattle.std.specs.List.{list_any}
-use Rattle.std.specs.Int.{bit_at}
+use Rattle.std.specs.Int.{bit_at, w32, leading_zeros, trailing_zeros}
+use Rattle.std.specs.Int.Count.{count_leading_zeros, leading_le}
+use Rattle.std.proofs.lemmas.Nat.{pow_pos}
 use Rattle.std.proofs.lemmas.Bool.{cases_eq, cases_lt}
 use Rattle.std.proofs.lemmas.Bool.Decides.{nat_tests}
 use Rattle.std.proofs.lemmas.List.{get_or_past}
 use Rattle.std.proofs.lemmas.List.Folds.{list_any-append}
-use Rattle.std.proofs.lemmas.Nat.Bits.{bit_at_or, bit_at-zero}
+use Rattle.std.proofs.lemmas.Nat.Bits.{bit_at_above, bit_at_or, bit_at-trailing_zeros, bit_at-zero}
+use Rattle.std.proofs.Math.Nat.{pow-suc}
 use Rattle.std.proofs.Math.Path.{fun_ext}
 use Rattle.hla_base.specs.Limits.{max_joins}
 use Rattle.hla_declaration.specs.Entries.{entry_at}
@@ -123,3 +126,24 @@ module _ (classes federates : ℕ) (old new : List ℕ) (before after : ℕ → 
 module _ (sets : List ℕ) (subscribed : ℕ → ℕ → Bool) (agree : AreSubscribers sets subscribed) where
   pub found_same : (f : ℕ) → f ≤ max_joins → (classes : List ℕ) → find (is_in_set_of sets f) classes ≡ find (λ k. subscribed f k) classes
   found_same f few classes = ap (λ (p : ℕ → Bool). find p classes) (fun_ext (λ k. agree f k few))
+
+-- nobody stands below the lowest bit of a set
+pub nobody_before : (set f : ℕ) → set < 2 ^ 32 → f < trailing_zeros w32 set → has_federate set f ≡ false
+nobody_before zero f fits below = nobody f
+nobody_before (suc n) f fits below = ap (λ bit. bit == 1) ((bit_at-trailing_zeros w32 (suc n) (omega arith) fits).2 f below)
+
+-- a number lies below the power at its highest bit
+below_highest : (count n : ℕ) → n < 2 ^ count → n < 2 ^ (count - count_leading_zeros count n)
+unfolding count_leading_zeros
+below_highest zero n fits = fits
+below_highest (suc k) zero fits = pow_pos (suc k - suc k)
+below_highest (suc k) (suc n) fits =
+    let zeros = count_leading_zeros k (suc n / 2) in
+    let half : suc n / 2 < 2 ^ k = omega (arith, fits, pow-suc 2 k) in
+    let rest : suc n / 2 < 2 ^ (k - zeros) = below_highest k (suc n / 2) half in
+    let more : suc k - zeros ≡ suc (k - zeros) = omega (arith, leading_le k (suc n / 2)) in
+    rw (more, pow-suc 2 (k - zeros)) (omega (arith, rest))
+
+-- and nobody past the highest
+pub nobody_behind : (set f : ℕ) → set < 2 ^ 32 → 32 - leading_zeros w32 set ≤ f → has_federate set f ≡ false
+nobody_behind set f fits past = ap (λ bit. bit == 1) (bit_at_above set (32 - leading_zeros w32 set) f (below_highest 32 set fits) past)
