@@ -102,7 +102,8 @@ impl Parts {
     }
 
     /// Puts an interaction on the wire to each federate that receives it, at the class at which it does, and answers who they
-    /// are. `OutOfMemory`, and all as it was, where a growth was refused.
+    /// are. It asks the federates from the first to the last of those that subscribe the class, or one of those around it.
+    /// `OutOfMemory`, and all as it was, where a growth was refused.
     pub fn post_interaction(
         &mut self,
         heading: Heading,
@@ -135,8 +136,8 @@ impl Parts {
             subscribers,
         };
         let mut told = FederateSet::new();
-        let end = self.members.next_federate();
-        for peer in 1..end {
+        let end = self.members.next_federate().min(subscribers.end());
+        for peer in subscribers.first()..end {
             if self.post_interaction_to(&mut told, post, peer).is_err() {
                 self.members.take_back(heading.sender, told);
                 return Err(Fault::OutOfMemory);
@@ -227,7 +228,8 @@ impl Parts {
     }
 
     /// Puts an update on the wire to each federate that receives it, with the attributes that it is shown, and answers who they
-    /// are. `OutOfMemory`, and all as it was, where a growth was refused.
+    /// are. It asks the federates from the first to the last of those that subscribe the class, or one of those around it.
+    /// `OutOfMemory`, and all as it was, where a growth was refused.
     #[inline(always)]
     fn post_update(
         &mut self,
@@ -267,8 +269,8 @@ impl Parts {
         };
         let mut told = FederateSet::new();
         let mut made = None;
-        let end = self.members.next_federate();
-        for peer in 1..end {
+        let end = self.members.next_federate().min(subscribers.end());
+        for peer in subscribers.first()..end {
             let posted = self.post_update_to(&mut told, &mut made, post, object, peer);
             if posted.is_err() {
                 self.members.take_back(heading.sender, told);

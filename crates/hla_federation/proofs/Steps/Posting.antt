@@ -10,9 +10,13 @@ use Rattle.hla_base.specs.declared.content.Content.{Content}
 use Rattle.hla_base.specs.declared.content.Content.TheVariants as content
 use Rattle.hla_base.specs.declared.content.Event.{Event}
 use Rattle.hla_base.specs.declared.content.HandleValuePair.{HandleValuePair}
+use Rattle.hla_base.specs.Limits.{max_joins}
 use Rattle.hla_base.specs.Tables.{upd, upd2, is_other, when}
 use Rattle.hla_catalogue.specs.Lookup.{has_parameter, object_lineage, interaction_lineage}
 use Rattle.hla_declaration.specs.Declarations as declared
+use Rattle.hla_declaration.specs.Receivers.{AreServed}
+use Rattle.hla_declaration.specs.Subscribers.{has_federate}
+use Rattle.hla_declaration.specs.declared.subscribing.Subscribers.{Subscribers}
 use Rattle.hla_null_message.specs.declared.message.Message.{Message}
 use Rattle.hla_null_message.specs.declared.message.Message.TheVariants as message
 use Rattle.hla_machine.specs.Directory.{Directory, Body, AnInteraction, AnUpdate, default_name, is_receiver, served_interaction, served_object}
@@ -25,7 +29,8 @@ use Rattle.hla_federation.specs.FederationValue.{FederationValue}
 use Rattle.hla_federation.specs.declared.heading.Heading.{Heading}
 use Rattle.hla_federation.specs.Steps.Sending.{HasSent, message_to, only_to, said_messages}
 use Rattle.hla_federation.specs.Steps.State.{AreWhole, IsWhole, directory_from, state_of}
-use Rattle.hla_federation.proofs.Steps.Addressing.{added_at, find_none, interaction_at, joined_within, map_then, reflection_at, said_first, said_last}
+use Rattle.hla_federation.proofs.Steps.Receiving.{has_message, told_are}
+use Rattle.hla_federation.proofs.Steps.Addressing.{added_at, find_none, interaction_at, joined_within, map_then, reflection_at}
 
 -- ---- wires with messages behind the others
 module _ (f : ℕ) (wire : ℕ → ℕ → List Message) where
@@ -120,6 +125,10 @@ module _ (f peer : ℕ) (messages : ℕ → List Message) (v : FederationValue) 
 pub told_none : (told : ℕ → Bool) (peer : ℕ) (receives : Bool) → told peer ≡ false → receives ≡ false → told ≡ upd told peer receives
 told_none told peer receives untold none = sym (upd-self told peer receives (none ∙ sym untold))
 
+none_is : (o : Option ℕ) → is_some o ≡ false → o ≡ None
+none_is None none = refl
+none_is (Some k) none = absurd (cc)
+
 -- what goes to a federate is what is said at the class at which it is served
 served_is : (head : Heading) (said_at : ℕ → Option Content) (own joined : Bool) (served : Option ℕ) → (joined ≡ false → served ≡ None)
     → cond (not own && joined) (said_messages head (option_and_then said_at served)) [] ≡ option_map_or (λ k. said_messages head (said_at k)) (when (not own) served) []
@@ -148,6 +157,26 @@ module _ (v : FederationValue) (whole : IsWhole v) (head : Heading) (peer : ℕ)
       ∙ served_is head (reflection_at d object values peer) (eqb head.sender peer) (d.joined peer) (served_object d peer class)
       (λ no. find_none (λ k. is_some (d.subscribed peer k)) (object_lineage v.catalogue class) (λ k. ap (λ (o : Option (List ℕ)). is_some o) (whole.parts.silent peer k no).objects))
 
+  -- nothing where it is served at no class
+  says_nothing : (b : Bool) (says : ℕ → List Message) → option_map_or says (when b None) [] ≡ []
+  says_nothing true says = refl
+  says_nothing false says = refl
+
+  pub interaction_unserved : (class : ℕ) (values : List HandleValuePair) → is_some (served_interaction (state_of v).directory peer class) ≡ false
+      → message_to (state_of v).directory head (AnInteraction class values) peer ≡ []
+  interaction_unserved class values none =
+      interaction_said class values
+      ∙ ap (λ (o : Option ℕ). option_map_or (λ k. said_messages head (interaction_at v.catalogue values peer k)) (when (not (eqb head.sender peer)) o) []) (none_is _ none)
+      ∙ says_nothing (not (eqb head.sender peer)) (λ k. said_messages head (interaction_at v.catalogue values peer k))
+
+  pub update_unserved : (object class : ℕ) (values : List HandleValuePair) → class ≡ ((state_of v).directory.object object).class
+      → is_some (served_object (state_of v).directory peer class) ≡ false → message_to (state_of v).directory head (AnUpdate object values) peer ≡ []
+  update_unserved object class values is none =
+      let d = (state_of v).directory in
+      update_said object class values is
+      ∙ ap (λ (o : Option ℕ). option_map_or (λ k. said_messages head (reflection_at d object values peer k)) (when (not (eqb head.sender peer)) o) []) (none_is _ none)
+      ∙ says_nothing (not (eqb head.sender peer)) (λ k. said_messages head (reflection_at d object values peer k))
+
 -- ---- one receiver after another
 module _ (v : FederationValue) (head : Heading) (body : Body) where
   abbrev messages : ℕ → List Message
@@ -160,9 +189,6 @@ module _ (v : FederationValue) (head : Heading) (body : Body) where
   abbrev pub messages_below : ℕ → ℕ → List Message
   messages_below peer h = cond (ltb h peer) (messages h) []
 
-  pub posted_first : HasSent head.sender (messages_below 1) v v
-  posted_first = sent_same head.sender (λ _. []) (messages_below 1) v v (λ h. sym (said_first v head body h)) (sent_nothing head.sender v)
-
   pub posted_next : (peer : ℕ) (now new : FederationValue) → HasSent head.sender (messages_below peer) v now
       → HasSent head.sender (only_to peer (message_to (state_of now).directory head body)) now new → HasSent head.sender (messages_below (peer + 1)) v new
   posted_next peer now new before one =
@@ -170,16 +196,9 @@ module _ (v : FederationValue) (head : Heading) (body : Body) where
       sent_same head.sender (λ h. messages_below peer h ++ only_to peer messages h) (messages_below (peer + 1)) v new (λ h. added_at messages peer h)
       (sent_more head.sender (messages_below peer) (only_to peer messages) v now new before here)
 
-  pub posted_last : (end : ℕ) (new : FederationValue) → length v.members + 1 ≤ end → HasSent head.sender (messages_below end) v new → HasSent head.sender messages v new
-  posted_last end new all sent = sent_same head.sender (messages_below end) messages v new (λ h. said_last v head body end h all) sent
-
   -- and who was told
   abbrev pub told_below : ℕ → ℕ → Bool
   told_below peer g = ltb g peer && receives g
-
-  pub told_first : (g : ℕ) → false ≡ told_below 1 g
-  told_first zero = let nobody : is_other (state_of v).directory.joined head.sender 0 ≡ false = and-false (not (eqb head.sender 0)) in rw nobody refl
-  told_first (suc k) = let past : ltb (suc k) 1 ≡ false = grind (arith, nat_tests) in rw past refl
 
   pub told_not_yet : (peer : ℕ) → told_below peer peer ≡ false
   told_not_yet peer = let past : ltb peer peer ≡ false = grind (arith, nat_tests) in rw past refl
@@ -197,8 +216,58 @@ module _ (v : FederationValue) (head : Heading) (body : Body) where
       rw (n, same) (before g))
       (cases_Bool (eqb peer g))
 
-  pub told_last : (end g : ℕ) → length v.members + 1 ≤ end → told_below end g ≡ receives g
-  told_last end g all = ⊎_elim
-      (λ (y : (members_of v.members).joined g ≡ true). let b = joined_within v.members g y in let below : g < end = omega (arith, b, all) in let now : ltb g end ≡ true = grind (arith, nat_tests) in rw now refl)
-      (λ (n : (members_of v.members).joined g ≡ false). rw (n, and-false (not (eqb head.sender g))) (and-false (ltb g end)))
-      (cases_Bool ((members_of v.members).joined g))
+  -- nothing goes to a number that no federate has, so that who is served tells the others
+  pub nothing_to : (h : ℕ) → (0 < h → h < length v.members + 1 → messages h ≡ []) → messages h ≡ []
+  nothing_to zero within = let nobody : is_other (state_of v).directory.joined head.sender 0 ≡ false = and-false (not (eqb head.sender 0)) in rw nobody refl
+  nothing_to (suc k) within = ⊎_elim
+      (λ (y : (members_of v.members).joined (suc k) ≡ true). within (omega arith) (joined_within v.members (suc k) y))
+      (λ (n : (members_of v.members).joined (suc k) ≡ false). rw (n, and-false (not (eqb head.sender (suc k)))) refl)
+      (cases_Bool ((members_of v.members).joined (suc k)))
+
+  unreceived : (h : ℕ) → messages h ≡ [] → receives h ≡ false
+  unreceived h none = sym (told_are (state_of v).directory head body h) ∙ ap has_message none
+
+  module _ (first : ℕ) (none : (h : ℕ) → h < first → messages h ≡ []) where
+    pub posted_from : HasSent head.sender (messages_below first) v v
+    posted_from = sent_same head.sender (λ _. []) (messages_below first) v v (λ h. ⊎_elim
+        (λ (y : ltb h first ≡ true). let below : h < first = grind (arith, nat_tests) in rw (y, none h below) refl)
+        (λ (n : ltb h first ≡ false). rw n refl)
+        (cases_Bool (ltb h first))) (sent_nothing head.sender v)
+
+    pub told_from : (g : ℕ) → false ≡ told_below first g
+    told_from g = ⊎_elim
+        (λ (y : ltb g first ≡ true). let below : g < first = grind (arith, nat_tests) in rw (y, unreceived g (none g below)) refl)
+        (λ (n : ltb g first ≡ false). rw n refl)
+        (cases_Bool (ltb g first))
+
+  module _ (end : ℕ) (none : (h : ℕ) → end ≤ h → messages h ≡ []) where
+    pub posted_to : (new : FederationValue) → HasSent head.sender (messages_below end) v new → HasSent head.sender messages v new
+    posted_to new sent = sent_same head.sender (messages_below end) messages v new (λ h. ⊎_elim
+        (λ (y : ltb h end ≡ true). rw y refl)
+        (λ (n : ltb h end ≡ false). let past : end ≤ h = grind (arith, nat_tests) in rw (n, none h past) refl)
+        (cases_Bool (ltb h end))) sent
+
+    pub told_to : (g : ℕ) → told_below end g ≡ receives g
+    told_to g = ⊎_elim
+        (λ (y : ltb g end ≡ true). rw y refl)
+        (λ (n : ltb g end ≡ false). let past : end ≤ g = grind (arith, nat_tests) in rw (n, unreceived g (none g past)) refl)
+        (cases_Bool (ltb g end))
+
+-- nothing goes to who is not among the subscribers
+module _ (v : FederationValue) (whole : IsWhole v) (head : Heading) (subscribers : Subscribers) where
+  abbrev IsNone : ℕ → Type 0
+  IsNone h = 0 < h → h < length v.members + 1 → has_federate subscribers.bits h ≡ false
+
+  joined_few : (h : ℕ) → h < length v.members + 1 → h ≤ max_joins
+  joined_few h few = let all : length v.members + 1 ≤ max_joins + 1 = whole.parts.few in omega (arith, few, all)
+
+  pub interaction_unsubscribed : (class : ℕ) (values : List HandleValuePair) → AreServed subscribers (λ f. served_interaction (state_of v).directory f class)
+      → (h : ℕ) → IsNone h → message_to (state_of v).directory head (AnInteraction class values) h ≡ []
+  interaction_unsubscribed class values served h none = nothing_to v head (AnInteraction class values) h
+      (λ some few. interaction_unserved v whole head h class values (sym (served h (joined_few h few)) ∙ none some few))
+
+  pub update_unsubscribed : (object class : ℕ) (values : List HandleValuePair) → class ≡ ((state_of v).directory.object object).class
+      → AreServed subscribers (λ f. served_object (state_of v).directory f class)
+      → (h : ℕ) → IsNone h → message_to (state_of v).directory head (AnUpdate object values) h ≡ []
+  update_unsubscribed object class values is served h none = nothing_to v head (AnUpdate object values) h
+      (λ some few. update_unserved v whole head h object class values is (sym (served h (joined_few h few)) ∙ none some few))

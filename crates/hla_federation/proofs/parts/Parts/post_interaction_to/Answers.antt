@@ -10,9 +10,19 @@ use Rattle.hla_federation.specs.FederationValue.{FederationValue}
 use Rattle.hla_federation.specs.Steps.Sending.{HasSent, message_to, only_to, said_messages}
 use Rattle.hla_federation.specs.Steps.State.{state_of}
 use Rattle.hla_federation.proofs.Steps.Addressing.{interaction_at}
-use Rattle.hla_federation.proofs.Steps.Posting.{interaction_said, sent_event, told_none}
+use Rattle.hla_federation.proofs.Steps.Posting.{interaction_said, sent_event, sent_none, told_none}
 use Rattle.hla_federation.proofs.Steps.Receiving.{has_message, told_are}
 use Rattle.hla_federation.proofs.parts.Parts.post_interaction_to.Goals as goal
+
+pub returns-in_default-clause-sent : goal.returns-in_default-clause-sent
+returns-in_default-clause-sent c =
+    let now = c.args.self.now in
+    let d = (state_of now).directory in
+    let post = c.args.post in
+    let values = post.values.now in
+    let says = λ (o : Option ℕ). option_map_or (λ k. said_messages post.heading (interaction_at now.catalogue values c.args.peer k)) o [] in
+    let nothing = interaction_said now c.requires.parts post.heading c.args.peer post.class values ∙ ap says (sym c.interaction_served.ensures ∙ c.in_default.is) in
+    sent_none post.heading.sender c.args.peer (message_to d post.heading (AnInteraction post.class values)) now nothing
 
 pub returns-in_default-clause-told : goal.returns-in_default-clause-told
 returns-in_default-clause-told c =

@@ -10,9 +10,19 @@ use Rattle.hla_federation.specs.Steps.Reflecting.{event_messages}
 use Rattle.hla_federation.specs.Steps.Sending.{HasSent, message_to, only_to, said_messages}
 use Rattle.hla_federation.specs.Steps.State.{state_of}
 use Rattle.hla_federation.proofs.Steps.Addressing.{reflection_at}
-use Rattle.hla_federation.proofs.Steps.Posting.{sent_event, told_none, update_said}
+use Rattle.hla_federation.proofs.Steps.Posting.{sent_event, sent_none, told_none, update_said}
 use Rattle.hla_federation.proofs.Steps.Receiving.{has_message, told_are}
 use Rattle.hla_federation.proofs.parts.Parts.post_update_to.Goals as goal
+
+pub returns-in_default-clause-sent : goal.returns-in_default-clause-sent
+returns-in_default-clause-sent c =
+    let now = c.args.self.now in
+    let d = (state_of now).directory in
+    let post = c.args.post in
+    let values = post.values.now in
+    let says = λ (o : Option ℕ). option_map_or (λ k. said_messages post.heading (reflection_at d c.args.object values c.args.peer k)) o [] in
+    let nothing = update_said now c.requires.parts post.heading c.args.peer c.args.object post.class values c.requires.class ∙ ap says (sym c.update_served.ensures ∙ c.in_default.is) in
+    sent_none post.heading.sender c.args.peer (message_to d post.heading (AnUpdate c.args.object values)) now nothing
 
 pub returns-in_default-clause-told : goal.returns-in_default-clause-told
 returns-in_default-clause-told c =
@@ -24,6 +34,17 @@ returns-in_default-clause-told c =
     let nothing = update_said now c.requires.parts post.heading c.args.peer c.args.object post.class values c.requires.class ∙ ap says (sym c.update_served.ensures ∙ c.in_default.is) in
     told_none (federate_set c.args.told.now) c.args.peer (is_receiver d post.heading.sender (AnUpdate c.args.object values) c.args.peer) c.requires.untold
     (sym (told_are d post.heading (AnUpdate c.args.object values) c.args.peer) ∙ ap has_message nothing)
+
+pub returns-in_default-reflection-clause-sent : goal.returns-in_default-reflection-clause-sent
+returns-in_default-reflection-clause-sent c =
+    let now = c.args.self.now in
+    let d = (state_of now).directory in
+    let post = c.args.post in
+    let values = post.values.now in
+    let says = λ (o : Option ℕ). option_map_or (λ k. said_messages post.heading (reflection_at d c.args.object values c.args.peer k)) o [] in
+    let nothing = update_said now c.requires.parts post.heading c.args.peer c.args.object post.class values c.requires.class ∙ ap says (sym c.update_served.ensures ∙ c.in-Some.is)
+    ∙ sym c.in_ok-reflection.ensures.ok ∙ ap event_messages c.in_default-reflection.is in
+    sent_none post.heading.sender c.args.peer (message_to d post.heading (AnUpdate c.args.object values)) now nothing
 
 pub returns-in_default-reflection-clause-told : goal.returns-in_default-reflection-clause-told
 returns-in_default-reflection-clause-told c =
