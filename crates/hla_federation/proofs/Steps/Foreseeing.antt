@@ -79,7 +79,7 @@ told_one : (b : Bool) → one_if (is_some (told_of b)) ≡ cond b 1 0
 told_one true = refl
 told_one false = refl
 
-handle_of_noted : (f serial : ℕ) (o : Option ℕ) → handle_noted f (option_map (λ (t : ℕ). record { serial = serial; stamp = t; receivers = [] }) o) ≡ option_map (λ (t : ℕ). record { sender = f; serial = serial }) o
+handle_of_noted : (f serial : ℕ) (o : Option ℕ) → handle_noted f (option_map (λ (t : ℕ). record { serial = serial; stamp = t; receivers = 0 }) o) ≡ option_map (λ (t : ℕ). record { sender = f; serial = serial }) o
 handle_of_noted f serial None = refl
 handle_of_noted f serial (Some t) = refl
 

@@ -1,5 +1,6 @@
 -- A federation while interactions and updates are put on the wires, one receiver after another
 use Rattle.std.proofs.Common.{◌≡◌, ℕ, zero, suc, ◌+◌, ◌<◌, ◌≤◌, List, [], ◌∷◌, ◌++◌, length, filter, cond, eqb, ltb, not, ◌&&◌, Bool, true, false, Option, None, Some, is_some, refl, sym, ap, subst, ◌∙◌, arith, ⊎_elim}
+use Rattle.std.specs.Prelude.{IsTrue}
 use Rattle.std.specs.Option.{option_map_or, option_and_then}
 use Rattle.std.proofs.Math.Bool.{and-false}
 use Rattle.std.proofs.Math.Path.{fun_ext}
@@ -27,7 +28,7 @@ use Rattle.hla_members.proofs.MemberTables.{upd-self}
 use Rattle.hla_execution.specs.MemberValue.{MemberValue, MemberTables, members_of}
 use Rattle.hla_federation.specs.FederationValue.{FederationValue}
 use Rattle.hla_federation.specs.declared.heading.Heading.{Heading}
-use Rattle.hla_federation.specs.Steps.Sending.{HasSent, message_to, only_to, said_messages}
+use Rattle.hla_federation.specs.Steps.Sending.{HasSent, message_to, only_to, part_to, said_messages}
 use Rattle.hla_federation.specs.Steps.State.{AreWhole, IsWhole, directory_from, state_of}
 use Rattle.hla_federation.proofs.Steps.Receiving.{has_message, told_are}
 use Rattle.hla_federation.proofs.Steps.Addressing.{added_at, find_none, interaction_at, joined_within, map_then, reflection_at}
@@ -120,6 +121,14 @@ module _ (f peer : ℕ) (messages : ℕ → List Message) (v : FederationValue) 
     is ∙ ap (λ (x : ℕ → ℕ → List Message). record (members_of v.members) { wire = x }) (with_one f (members_of v.members).wire peer (message.Event e ∷ [])
         ∙ ap (λ (ms : List Message). wires_with f (λ h. cond (eqb peer h) ms []) (members_of v.members).wire) (sym one)),
   )
+
+-- a part of an update that has values goes as any update does
+pub sent_part : (head : Heading) (object : ℕ) (values : List HandleValuePair) (v w : FederationValue) (empty : Bool) → (length values ≡ 0 → IsTrue empty) → empty ≡ false
+    → HasSent head.sender (message_to (state_of v).directory head (AnUpdate object values)) v w → HasSent head.sender (part_to (state_of v).directory head object values) v w
+sent_part head object [] v w empty none some sent = let yes : empty ≡ true = none refl in absurd (cc)
+sent_part head object (x ∷ xs) v w empty none some sent =
+    let d = (state_of v).directory in
+    sent_same head.sender (message_to d head (AnUpdate object (x ∷ xs))) (part_to d head object (x ∷ xs)) v w (λ h. refl) sent
 
 -- who is told
 pub told_none : (told : ℕ → Bool) (peer : ℕ) (receives : Bool) → told peer ≡ false → receives ≡ false → told ≡ upd told peer receives
